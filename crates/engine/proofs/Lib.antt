@@ -1,0 +1,3 @@
+pub mod Assignments
+pub mod Rows
+pub mod Tidy

@@ -1,0 +1,10 @@
+use mathlib.Core.Path.{_≡_, sym}
+use Prim.Native.Nat.{_-_, _/_, _≤_}
+use native.Mathlib.Omega.{arith}
+use borrow.Author.Needs.{needs}
+use lib.ListN.{length}
+use Rattle.engine.proofs.Assignments.{bit-past}
+use Rattle.engine.proofs.assignment.bit.Needs as need
+
+pub returns-then-at-ge-BYTES : need.returns-then-at-ge-BYTES
+returns-then-at-ge-BYTES c = sym (bit-past (c .args .bits .now) (c .args .v) (search needs))
