@@ -1,0 +1,4 @@
+//! The engine calls that each call of a filter makes, in their order.
+pub mod add;
+pub mod scratch;
+pub mod wipe;
