@@ -133,40 +133,40 @@ pass-push n (q ∷ rs) r s h = ap (λ x. cond (matches n q s) (blocks (q .action
 
 -- a register past the scratch registers
 module _ (x : ℕ) (far : 11 < x) where
-  off0 : eqb x 0 ≡ false
+  pub off0 : eqb x 0 ≡ false
   off0 = off x 0 (omega arith)
 
-  off1 : eqb x 1 ≡ false
+  pub off1 : eqb x 1 ≡ false
   off1 = off x 1 (omega arith)
 
-  off2 : eqb x 2 ≡ false
+  pub off2 : eqb x 2 ≡ false
   off2 = off x 2 (omega arith)
 
-  off3 : eqb x 3 ≡ false
+  pub off3 : eqb x 3 ≡ false
   off3 = off x 3 (omega arith)
 
-  off4 : eqb x 4 ≡ false
+  pub off4 : eqb x 4 ≡ false
   off4 = off x 4 (omega arith)
 
-  off5 : eqb x 5 ≡ false
+  pub off5 : eqb x 5 ≡ false
   off5 = off x 5 (omega arith)
 
-  off6 : eqb x 6 ≡ false
+  pub off6 : eqb x 6 ≡ false
   off6 = off x 6 (omega arith)
 
-  off7 : eqb x 7 ≡ false
+  pub off7 : eqb x 7 ≡ false
   off7 = off x 7 (omega arith)
 
-  off8 : eqb x 8 ≡ false
+  pub off8 : eqb x 8 ≡ false
   off8 = off x 8 (omega arith)
 
-  off9 : eqb x 9 ≡ false
+  pub off9 : eqb x 9 ≡ false
   off9 = off x 9 (omega arith)
 
-  off10 : eqb x 10 ≡ false
+  pub off10 : eqb x 10 ≡ false
   off10 = off x 10 (omega arith)
 
-  off11 : eqb x 11 ≡ false
+  pub off11 : eqb x 11 ≡ false
   off11 = off x 11 (omega arith)
 
 -- after the rule's frames stand in register 3
@@ -192,7 +192,7 @@ rest-regs r n live draft = go (blocks (r .action)) refl
     block h (suc (suc (suc (suc (suc (suc (suc (suc (suc (suc (suc (suc y)))))))))))) =
         let x : ℕ = (suc (suc (suc (suc (suc (suc (suc (suc (suc (suc (suc (suc y)))))))))))) in
         let f : 11 < x = omega arith in
-        simp (off0 x f, off1 x f, off2 x f, off3 x f, off4 x f, off5 x f, off6 x f, off7 x f, off8 x f, off9 x f, off10 x f, off11 x f)
+        simp (off0 x f, off1 x f, off2 x f, off3 x f, off6 x f, off7 x f, off8 x f, off9 x f, off10 x f, off11 x f)
 
     pass : blocks (r .action) ≡ false → (x : ℕ) → regs-after (Op.negate 6 2 ∷ (Op.meet 9 3 6 ∷ (Op.clear 6 ∷ (Op.empty 9 ∷ (Op.clear 9 ∷ join-steps scratch 10 2 3 (Op.copy 2 10 ∷ (Op.clear 10 ∷ []))))))) (put (meaning n live draft) 3 (matches n r)) x ≡ meaning n live (draft ++ (r ∷ [])) x
     pass h zero = refl
@@ -210,7 +210,7 @@ rest-regs r n live draft = go (blocks (r .action)) refl
     pass h (suc (suc (suc (suc (suc (suc (suc (suc (suc (suc (suc (suc y)))))))))))) =
         let x : ℕ = (suc (suc (suc (suc (suc (suc (suc (suc (suc (suc (suc (suc y)))))))))))) in
         let f : 11 < x = omega arith in
-        simp (off0 x f, off1 x f, off2 x f, off3 x f, off4 x f, off5 x f, off6 x f, off7 x f, off8 x f, off9 x f, off10 x f, off11 x f)
+        simp (off0 x f, off1 x f, off2 x f, off3 x f, off6 x f, off7 x f, off8 x f, off9 x f, off10 x f)
 
     go : (b : Bool) → blocks (r .action) ≡ b → regs-after (rest-steps r) (put (meaning n live draft) 3 (matches n r)) ≡ meaning n live (draft ++ (r ∷ []))
     go true h = rw h (fun-ext (block h))

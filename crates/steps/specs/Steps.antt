@@ -49,9 +49,18 @@ keep-steps w m b r rest =
 abbrev pub work-steps : Scratch → Rule → ℕ → List Op → List Op
 work-steps w r n rest = find-steps w 2 r n (Op.empty (w .fresh) ∷ keep-steps w 2 1 r rest)
 
--- the draft's registers are written, and the scratch registers cleared
+-- both of the draft's registers are written, and the scratch registers cleared
+abbrev pub replace-steps : List Op → List Op
+replace-steps rest = Op.copy 2 10 ∷ (Op.copy 1 11 ∷ (Op.clear 10 ∷ (Op.clear 11 ∷ rest)))
+
+-- the draft's registers that the rule changes are written, and the scratch registers cleared
 abbrev pub store-steps : Rule → List Op → List Op
-store-steps r rest = Op.copy 2 10 ∷ cond (blocks (r .action)) (Op.copy 1 11 ∷ (Op.clear 10 ∷ (Op.clear 11 ∷ rest))) (Op.clear 10 ∷ rest)
+store-steps r rest = cond (blocks (r .action)) (replace-steps rest) (Op.copy 2 10 ∷ (Op.clear 10 ∷ rest))
+
+-- the frames that these rules match and block are put together in the scratch registers
+abbrev pub rebuild-steps : List Rule → ℕ → List Op → List Op
+rebuild-steps [] n rest = rest
+rebuild-steps (r ∷ rs) n rest = find-steps scratch 10 r n (keep-steps scratch 10 11 r (rebuild-steps rs n rest))
 
 -- the scratch registers become false
 abbrev pub sweep-steps : List Op → List Op
@@ -60,3 +69,7 @@ sweep-steps rest = Op.clear 3 ∷ (Op.clear 4 ∷ (Op.clear 5 ∷ (Op.clear 6 �
 -- the calls of an add of the rule
 abbrev pub add-steps : Rule → ℕ → List Op
 add-steps r n = work-steps scratch r n (store-steps r [])
+
+-- the calls of a withdraw that leaves these rules
+abbrev pub withdraw-steps : List Rule → ℕ → List Op
+withdraw-steps rs n = rebuild-steps rs n (replace-steps [])

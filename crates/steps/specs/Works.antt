@@ -11,7 +11,7 @@ use Rattle.engine.specs.Does.{Rooms, View, Says}
 use Rattle.engine.specs.Rows.{Ran, ran}
 use Rattle.kind.specs.declared.rule.Rule.{Rule}
 use Rattle.steps.specs.declared.scratch.Scratch.{Scratch}
-use Rattle.steps.specs.Steps.{scratch, find-steps, work-steps, store-steps, sweep-steps}
+use Rattle.steps.specs.Steps.{scratch, find-steps, work-steps, store-steps, sweep-steps, rebuild-steps, replace-steps}
 
 -- the steps before the draft's registers are written, and what the test among them said
 pub record Works (R : Rooms) (w : Scratch) (rule : Rule) (n : ℕ) (e e′ : View (R .Shape)) (r : Result Bool EngineFault) : Type 0 where
@@ -23,3 +23,8 @@ pub record Works (R : Rooms) (w : Scratch) (rule : Rule) (n : ℕ) (e e′ : Vie
 abbrev pub Admits : (R : Rooms) → Rule → ℕ → View (R .Shape) → View (R .Shape) → Result Bool EngineFault → Type 0
 Admits R rule n e e′ (Ok x) = (at : View (R .Shape)) × Works R scratch rule n e at (Ok x) × Ran {A = Unit {0}} R (store-steps rule) at e′ (Ok tt)
 Admits R rule n e e′ (Err f) = (at : View (R .Shape)) × Works R scratch rule n e at (Err f) × Ran {A = Unit {0}} R sweep-steps at e′ (Ok tt)
+
+-- all the calls of a withdraw that leaves these rules, or those up to a refusal and the clearing after it
+abbrev pub Rebuilds : (R : Rooms) → List Rule → ℕ → View (R .Shape) → View (R .Shape) → Result (Unit {0}) EngineFault → Type 0
+Rebuilds R rs n e e′ (Ok x) = (at : View (R .Shape)) × Ran {A = Unit {0}} R (rebuild-steps rs n) e at (Ok tt) × Ran {A = Unit {0}} R replace-steps at e′ (Ok tt)
+Rebuilds R rs n e e′ (Err f) = (at : View (R .Shape)) × Ran {A = Unit {0}} R (rebuild-steps rs n) e at (Err f) × Ran {A = Unit {0}} R sweep-steps at e′ (Ok tt)

@@ -1,12 +1,14 @@
 ghost use mathlib.Core.Path.{_≡_};
 ghost use Rattle.std.specs.declared.result.Result.the-variants.{Ok};
 ghost use Rattle.engine.specs.Rows.{Ran};
-ghost use Rattle.steps.specs.Steps.{bit-steps, rule-steps, join-steps, find-steps, keep-steps, store-steps, sweep-steps};
+ghost use Rattle.steps.specs.Steps.{bit-steps, rule-steps, join-steps, find-steps, keep-steps, store-steps};
 ghost use Rattle.steps.specs.Works.{Works, Admits};
 use crate::scratch::BLOCKED;
 use crate::scratch::MATCHED;
 use crate::scratch::SCRATCH;
 use crate::scratch::Scratch;
+use crate::settle::replace;
+use crate::settle::sweep;
 use engine::assignment::bit;
 use engine::calls::DecidingEngine;
 use engine::calls::Engine;
@@ -60,7 +62,7 @@ fn join<E: Engine>(e: &mut E, w: Scratch, d: u8, a: u8, b: u8) -> Result<(), Eng
 }
 
 // The frames that the rule matches, and those of them that are not in register m.
-fn find<E: Engine>(e: &mut E, w: Scratch, rule: &Rule, n: u8, m: u8) -> Result<(), EngineFault>
+pub(crate) fn find<E: Engine>(e: &mut E, w: Scratch, rule: &Rule, n: u8, m: u8) -> Result<(), EngineFault>
     ensures { λ r. ⌜ Ran (E·Engine .rooms) (find-steps w m (now (rule .entry)) n) (E·Engine .view (now (e .entry))) (E·Engine .view (now (e .exit))) r ⌝ }
 {
     build(e, w, rule, n)?;
@@ -70,7 +72,7 @@ fn find<E: Engine>(e: &mut E, w: Scratch, rule: &Rule, n: u8, m: u8) -> Result<(
 }
 
 // The frames matched and, for block, blocked with the rule, from those matched (m) and blocked (b) before it.
-fn keep<E: Engine>(e: &mut E, w: Scratch, rule: &Rule, m: u8, b: u8) -> Result<(), EngineFault>
+pub(crate) fn keep<E: Engine>(e: &mut E, w: Scratch, rule: &Rule, m: u8, b: u8) -> Result<(), EngineFault>
     ensures { λ r. ⌜ Ran (E·Engine .rooms) (keep-steps w m b (now (rule .entry))) (E·Engine .view (now (e .entry))) (E·Engine .view (now (e .exit))) r ⌝ }
 {
     if rule.action.is_block() {
@@ -92,35 +94,17 @@ fn work<E: DecidingEngine>(e: &mut E, w: Scratch, rule: &Rule, n: u8) -> Result<
     Ok(idle)
 }
 
-// The draft's registers are written, and the scratch registers cleared.
+// The draft's registers that the rule changes are written, and the scratch registers cleared.
 fn store<E: Engine>(e: &mut E, rule: &Rule) -> Result<(), EngineFault>
     ensures row { λ r. ⌜ Ran (E·Engine .rooms) (store-steps (now (rule .entry))) (E·Engine .view (now (e .entry))) (E·Engine .view (now (e .exit))) r ⌝ }
     ensures done { λ r. ⌜ r ≡ Ok tt ⌝ }
 {
-    e.copy(MATCHED, SCRATCH.matched)?;
     if rule.action.is_block() {
-        e.copy(BLOCKED, SCRATCH.blocked)?;
-        e.clear(SCRATCH.matched)?;
-        e.clear(SCRATCH.blocked)
+        replace(e)
     } else {
+        e.copy(MATCHED, SCRATCH.matched)?;
         e.clear(SCRATCH.matched)
     }
-}
-
-// The scratch registers become false.
-fn sweep<E: Engine>(e: &mut E) -> Result<(), EngineFault>
-    ensures row { λ r. ⌜ Ran (E·Engine .rooms) sweep-steps (E·Engine .view (now (e .entry))) (E·Engine .view (now (e .exit))) r ⌝ }
-    ensures done { λ r. ⌜ r ≡ Ok tt ⌝ }
-{
-    e.clear(SCRATCH.rule)?;
-    e.clear(SCRATCH.literal)?;
-    e.clear(SCRATCH.negated)?;
-    e.clear(SCRATCH.left)?;
-    e.clear(SCRATCH.right)?;
-    e.clear(SCRATCH.both)?;
-    e.clear(SCRATCH.fresh)?;
-    e.clear(SCRATCH.matched)?;
-    e.clear(SCRATCH.blocked)
 }
 
 // The draft's registers take the rule in; whether it decides no frame. A refusal leaves every register as it was.
