@@ -1,0 +1,4 @@
+pub mod Steps
+pub mod Seeks
+pub mod Least
+pub mod Assigned
