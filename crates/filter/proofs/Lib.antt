@@ -1,1 +1,3 @@
 pub mod Turning
+pub mod Redoing
+pub mod Comparing

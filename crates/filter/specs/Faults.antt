@@ -3,7 +3,7 @@ use Prim.Native.Nat.{ℕ}
 use Rattle.engine.specs.Does.{fault-number}
 use Rattle.kind.specs.Faults.{rule-number, rule-place, frame-number}
 use Rattle.filter.specs.declared.fault.FilterFault.{FilterFault}
-use Rattle.filter.specs.declared.fault.FilterFault.the-variants.{Rule, Frame, Engine, Mismatch, Full}
+use Rattle.filter.specs.declared.fault.FilterFault.the-variants.{Rule, Frame, Engine, Mismatch, Full, Missing}
 
 abbrev pub filter-number : FilterFault → ℕ
 filter-number (Rule f) = rule-number f
@@ -11,6 +11,7 @@ filter-number (Frame f) = frame-number f
 filter-number (Engine f) = fault-number f
 filter-number Mismatch = 14
 filter-number Full = 15
+filter-number Missing = 16
 
 -- only a line's faults have a place
 abbrev pub filter-place : FilterFault → ℕ
@@ -19,3 +20,4 @@ filter-place (Frame f) = 0
 filter-place (Engine f) = 0
 filter-place Mismatch = 0
 filter-place Full = 0
+filter-place Missing = 0

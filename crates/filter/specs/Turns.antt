@@ -1,7 +1,9 @@
 -- What a filter holds, and what a call does to it.
 use mathlib.Core.Path.{_≡_}
 use mathlib.Core.List.{List, [], _∷_}
-use Prim.Native.Nat.{ℕ}
+use mathlib.Core.Logic.{_⊎_}
+use Prim.Native.Nat.{ℕ, _-_}
+use Rattle.std.specs.Holes.{removed}
 use Rattle.std.specs.declared.result.Result.{Result}
 use Rattle.std.specs.declared.result.Result.the-variants.{Ok, Err}
 use Rattle.std.specs.declared.option.Option.{Option}
@@ -12,24 +14,31 @@ use Rattle.engine.specs.Does.{View, Rooms}
 use Rattle.engine.specs.Rows.{ran}
 use Rattle.kind.specs.declared.rule.Rule.{Rule}
 use Rattle.kind.specs.Kinds.{Reading}
-use Rattle.steps.specs.Steps.{add-steps, sweep-steps}
+use Rattle.kind.specs.Rules.{judged}
+use Rattle.steps.specs.Steps.{add-steps, withdraw-steps, sweep-steps}
 use Rattle.steps.specs.Meaning.{meaning}
+use Rattle.search.specs.Steps.{alike-steps, least-steps}
+use Rattle.search.specs.Least.{Least}
 use Rattle.filter.specs.declared.answer.Answer.{Answer}
 use Rattle.filter.specs.declared.answer.Answer.the-variants.{Refused}
 use Rattle.filter.specs.declared.fault.FilterFault.{FilterFault}
 use Rattle.filter.specs.Books.{Books}
 use Rattle.filter.specs.Answers.{engine-told}
-use Rattle.filter.specs.Calls.{Asked, adding, committing, judging, refusal, Right, drawn}
+use Rattle.filter.specs.Calls.{Asked, adding, committing, judging, withdrawing, comparing, refusal, Right, drawn}
 
 -- the registers mean what the books say
 abbrev pub Sound : {S : Type 0} → Reading → View S → Books → Type 0
 Sound k e b = e .regs ≡ meaning (k .bits) (b .live) (b .draft)
 
--- the engine calls of a call that is not refused beforehand
+-- the engine calls of a call that is not refused beforehand; those of a compare follow the least frame
 abbrev pub Steps : Reading → Books → Asked → List Op → Type 0
 Steps k b (adding line) ops = (r : Rule) × (k .reads line ≡ Ok r) × (ops ≡ add-steps r (k .bits))
 Steps k b committing ops = ops ≡ Op.copy 0 1 ∷ []
 Steps k b (judging frame) ops = (s : List ℕ) × (k .turns frame ≡ Ok s) × (ops ≡ Op.evaluate 0 (within (k .bits) (bit-at s)) ∷ [])
+Steps k b (withdrawing i) ops = ops ≡ withdraw-steps (removed (b .draft) (i - 1)) (k .bits)
+Steps k b (comparing place) ops =
+    (((s : Bits) → judged (k .bits) (b .live) s ≡ judged (k .bits) (b .draft) s) × (ops ≡ alike-steps))
+    ⊎ ((s : Bits) × Least (k .bits) (judged (k .bits) (b .live)) (judged (k .bits) (b .draft)) s × (ops ≡ least-steps (k .bits) s))
 
 -- after a refusal the scratch registers are cleared
 abbrev pub settled : (R : Rooms) → View (R .Shape) × Result (Unit {0}) EngineFault → View (R .Shape) × Result (Unit {0}) EngineFault

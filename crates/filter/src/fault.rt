@@ -15,6 +15,8 @@ pub enum FilterFault {
     Mismatch,
     // the draft holds 64 rules
     Full,
+    // the draft has no rule of that number
+    Missing,
 }
 
 pub impl From<RuleFault> for FilterFault as FromRule {
@@ -52,6 +54,7 @@ impl FilterFault {
             FilterFault::Engine(fault) => fault.number(),
             FilterFault::Mismatch => 14,
             FilterFault::Full => 15,
+            FilterFault::Missing => 16,
         }
     }
 

@@ -1,19 +1,23 @@
 ghost use mathlib.Core.Path.{_≡_};
 ghost use Rattle.filter.specs.Books.{books, no-rules};
 ghost use Rattle.filter.specs.Calls.{Asked};
-ghost use Rattle.filter.specs.Answers.{added-as, committed-as, judged-as};
+ghost use Rattle.filter.specs.Answers.{added-as, committed-as, judged-as, withdrawn-as, compared-as, Stays};
 ghost use Rattle.filter.specs.Turns.{Sound, Turn};
 use crate::answer::Added;
+use crate::answer::Comparison;
 use crate::book::BOOK_MAX;
 use crate::book::Book;
 use crate::fault::FilterFault;
 use crate::fault::FromEngine;
 use crate::fault::FromFrame;
 use crate::fault::FromRule;
+use engine::assignment::Assignment;
 use engine::calls::DecidingEngine;
 use kind::kind::Kind;
 use kind::rule::Action;
+use search::least::least;
 use steps::add::admit;
+use steps::rebuild::rebuild;
 use steps::scratch::BLOCKED;
 use steps::scratch::LIVE;
 use steps::wipe::wipe;
@@ -90,6 +94,45 @@ impl<K: Kind, E: DecidingEngine> Filter<K, E> {
             Ok(Action::Block)
         } else {
             Ok(Action::Pass)
+        }
+    }
+
+    // Takes the rule of this number out of the draft; rules are numbered from 1, and the gap is closed.
+    pub fn withdraw(&mut self, number: usize) -> Result<(), FilterFault>
+        ensures { λ r. ⌜ (Sound (K·Kind .reading) (E·Engine .view (now (self .entry) .engine)) (books (now (self .entry) .live) (now (self .entry) .draft)) → Turn (E·Engine .rooms) (K·Kind .reading) (Asked.withdrawing number) (E·Engine .view (now (self .entry) .engine)) (books (now (self .entry) .live) (now (self .entry) .draft)) (E·Engine .view (now (self .exit) .engine)) (books (now (self .exit) .live) (now (self .exit) .draft)) (withdrawn-as r)) ⌝ }
+    {
+        let n = self.kind.bits();
+        if n != self.engine.variables() {
+            return Err(FilterFault::Mismatch);
+        }
+        if number < 1 {
+            return Err(FilterFault::Missing);
+        }
+        if number > self.draft.len() {
+            return Err(FilterFault::Missing);
+        }
+        let mut rest = self.draft;
+        rest.remove(number - 1);
+        rebuild(&mut self.engine, rest.rules(), n)?;
+        self.draft = rest;
+        Ok(())
+    }
+
+    // Whether the two books judge every frame alike; where not, the least frame that they judge differently goes into
+    // the first bytes of the place.
+    pub fn compare(&mut self, place: &mut Assignment) -> Result<Comparison, FilterFault>
+        ensures turn { λ r. ⌜ (Sound (K·Kind .reading) (E·Engine .view (now (self .entry) .engine)) (books (now (self .entry) .live) (now (self .entry) .draft)) → Turn (E·Engine .rooms) (K·Kind .reading) (Asked.comparing (now (place .entry))) (E·Engine .view (now (self .entry) .engine)) (books (now (self .entry) .live) (now (self .entry) .draft)) (E·Engine .view (now (self .exit) .engine)) (books (now (self .exit) .live) (now (self .exit) .draft)) (compared-as r (now (place .exit)))) ⌝ }
+        ensures stays { λ r. ⌜ Stays r (now (place .entry)) (now (place .exit)) ⌝ }
+    {
+        if self.kind.bits() != self.engine.variables() {
+            return Err(FilterFault::Mismatch);
+        }
+        match least(&mut self.engine)? {
+            None => Ok(Comparison::Alike),
+            Some(bits) => {
+                self.kind.back(&bits, place);
+                Ok(Comparison::Differs)
+            }
         }
     }
 }

@@ -29,7 +29,7 @@ use Rattle.search.specs.Seeks.{Chooses, Trail, Hunts, Seeks, Finds, Void}
 use Rattle.search.proofs.Picks.{test-says}
 use Rattle.search.proofs.Seeking.{holding, Chosen, left, lowest, right-bit, as-least, flat, under, hunt-regs, differ-regs, apart, apart-true, apart-false, true-apart, judged-local, hold-in, trail-ran, trail-regs, trail-chosen}
 
-hunt-ext : (p q : Bits) (k : ℕ) (rest : List Op) → ((v : ℕ) → 1 ≤ v → v ≤ k → p v ≡ q v) → hunt-steps places p k rest ≡ hunt-steps places q k rest
+pub hunt-ext : (p q : Bits) (k : ℕ) (rest : List Op) → ((v : ℕ) → 1 ≤ v → v ≤ k → p v ≡ q v) → hunt-steps places p k rest ≡ hunt-steps places q k rest
 hunt-ext p q zero rest h = refl
 hunt-ext p q (suc k) rest h = ap (λ (x : Bool). hunt-steps places p k (pick-steps places (suc k) x rest)) (h (suc k) (omega arith) (omega arith)) ∙ hunt-ext p q k (pick-steps places (suc k) (q (suc k)) rest) (λ v a b. h v a (omega arith))
 
@@ -140,13 +140,13 @@ module _ (R : Rooms) (n : ℕ) (live draft : List Rule) (e : View (R .Shape)) (m
         )
 
     -- a refused search of books that are alike
-    seek-alike : (f : EngineFault) → ((s : Bits) → judged n live s ≡ judged n draft s) → Seeks R n e e′ (Err f) → ran R e alike-steps ≡ (e′, Err f)
+    pub seek-alike : (f : EngineFault) → ((s : Bits) → judged n live s ≡ judged n draft s) → Seeks R n e e′ (Err f) → ran R e alike-steps ≡ (e′, Err f)
     seek-alike f same (inl p) = p .goes (Op.empty 9 ∷ (Op.clear 9 ∷ []))
     seek-alike f same (inr (inl (mid, p, t))) = p .goes (Op.empty 9 ∷ (Op.clear 9 ∷ [])) ∙ row (t .does) .goes (Op.clear 9 ∷ [])
     seek-alike f same (inr (inr (mid, at, p, t, h))) = absurd (flat (sym (says-alike mid at false p t .1 (λ s. alike-apart (judged n live) (judged n draft) s (same s)))))
 
     -- a refused search of books of which q is the least frame
-    seek-least : (f : EngineFault) (q : Bits) → Least n (judged n live) (judged n draft) q → Seeks R n e e′ (Err f) → ran R e (least-steps n q) ≡ (e′, Err f)
+    pub seek-least : (f : EngineFault) (q : Bits) → Least n (judged n live) (judged n draft) q → Seeks R n e e′ (Err f) → ran R e (least-steps n q) ≡ (e′, Err f)
     seek-least f q low (inl p) = p .goes (Op.empty 9 ∷ hunt-steps places q n (Op.clear 9 ∷ []))
     seek-least f q low (inr (inl (mid, p, t))) = p .goes (Op.empty 9 ∷ hunt-steps places q n (Op.clear 9 ∷ [])) ∙ row (t .does) .goes (hunt-steps places q n (Op.clear 9 ∷ []))
     seek-least f q low (inr (inr (mid, at, p, t, (s, k, m, l, tr, ch)))) =

@@ -2,6 +2,7 @@ ghost use mathlib.Core.Path.{_≡_};
 ghost use mathlib.Core.List.{[], _∷_, _++_};
 ghost use Prim.Native.Nat.{_<_};
 ghost use lib.ListN.{length};
+ghost use Rattle.std.specs.Holes.{removed};
 ghost use Rattle.filter.specs.Books.{held-in};
 use crate::book::BOOK_MAX;
 use crate::book::Book;
@@ -32,6 +33,13 @@ impl Book {
         self.count
     }
 
+    // The rules, in their order.
+    pub fn rules(&self) -> &[Rule]
+        ensures { λ r. ⌜ now r ≡ held-in (now (self .entry)) ⌝ }
+    {
+        &self.rules[0..self.count]
+    }
+
     // One rule more, behind the others.
     pub(crate) fn push(&mut self, rule: Rule)
         requires { ⌜ now self .count < 64 ⌝ }
@@ -40,5 +48,20 @@ impl Book {
         let at = self.count;
         self.rules[at] = rule;
         self.count = at + 1;
+    }
+
+    // The rule at place at, counted from 0, is taken out, and the gap closed.
+    pub(crate) fn remove(&mut self, at: usize)
+        requires { ⌜ at < now self .count ⌝ }
+        ensures { λ _. ⌜ held-in (now (self .exit)) ≡ removed (held-in (now (self .entry))) at ⌝ }
+    {
+        let last = self.count - 1;
+        let mut i = at;
+        while i < last {
+            let next = self.rules[i + 1];
+            self.rules[i] = next;
+            i += 1;
+        }
+        self.count = last;
     }
 }
