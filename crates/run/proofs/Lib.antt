@@ -1,0 +1,5 @@
+pub mod Judging
+pub mod Numbers
+pub mod Telling
+pub mod Runs
+pub mod Together
