@@ -2,7 +2,7 @@
 use mathlib.Core.Path.{_≡_}
 use mathlib.Core.Bool.{Bool, true, false, cond, not, _&&_}
 use mathlib.Core.List.{List}
-use Prim.Native.Nat.{ℕ, _-_, _/_, _%_, _^_, _≤_}
+use Prim.Native.Nat.{ℕ, zero, suc, _+_, _-_, _*_, _/_, _%_, _^_, _≤_}
 use lib.Dec.{eqb, leb}
 use lib.ListN.{getD}
 
@@ -21,6 +21,11 @@ Agree n s t = (v : ℕ) → 1 ≤ v → v ≤ n → s v ≡ t v
 -- the assignment that bytes spell: variable 1 is the top bit of the first byte
 abbrev pub bit-at : List ℕ → Bits
 bit-at bytes v = eqb ((getD bytes ((v - 1) / 8) 0 / 2 ^ (7 - (v - 1) % 8)) % 2) 1
+
+-- the number that variables 1 to n spell, variable 1 highest
+abbrev pub spelt : ℕ → Bits → ℕ
+spelt zero s = 0
+spelt (suc v) s = 2 * spelt v s + cond (s (suc v)) 1 0
 
 -- the calls, with their registers, variable, bit and assignment
 pub data Op : Type 0 where

@@ -1,3 +1,4 @@
+pub mod Actions
 pub mod Rules
 pub mod Kinds
 pub mod Faults

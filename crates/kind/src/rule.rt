@@ -1,6 +1,16 @@
 ghost use mathlib.Core.Path.{_≡_};
+ghost use Rattle.std.specs.shelf.Text.{sameBytes};
+ghost use Rattle.kind.specs.Actions.{action-of, action-word};
 ghost use Rattle.kind.specs.Rules.{blocks, Matching};
 use engine::assignment::Assignment;
+use text::fault::LineFault;
+use text::fields::Field;
+
+// The word for a rule that blocks.
+pub const BLOCK: &[u8] = b"block";
+
+// The word for a rule that lets pass.
+pub const PASS: &[u8] = b"pass";
 
 // What a rule does with the frames that it decides.
 #[derive(Clone, Copy)]
@@ -18,7 +28,37 @@ pub struct Rule {
     pub care: Assignment,
 }
 
+// Whether a text is this word.
+fn is_word(text: &[u8], word: &[u8]) -> bool
+    ensures { λ r. ⌜ r ≡ sameBytes (now (text .entry)) (now (word .entry)) ⌝ }
+{
+    text == word
+}
+
 impl Action {
+    // The action that a field says.
+    pub fn read(field: Field<'_>) -> Result<Action, LineFault>
+        ensures { λ r. ⌜ r ≡ action-of (now (field .entry .text)) (field .entry .place) ⌝ }
+    {
+        if is_word(field.text, BLOCK) {
+            Ok(Action::Block)
+        } else if is_word(field.text, PASS) {
+            Ok(Action::Pass)
+        } else {
+            Err(LineFault::Action(field.place))
+        }
+    }
+
+    // The word that says the action.
+    pub fn word(self) -> &'static [u8]
+        ensures { λ r. ⌜ now r ≡ action-word self ⌝ }
+    {
+        match self {
+            Action::Block => BLOCK,
+            Action::Pass => PASS,
+        }
+    }
+
     pub fn is_block(self) -> bool
         ensures { λ r. ⌜ r ≡ blocks self ⌝ }
     {

@@ -10,7 +10,7 @@ use lib.ListN.{length, replicate}
 use Rattle.std.specs.declared.result.Result.the-variants.{Ok}
 use Rattle.std.specs.declared.option.Option.{Option}
 use Rattle.std.specs.declared.option.Option.the-variants.{Some, None}
-use Rattle.engine.specs.Ops.{Bits, Agree, bit-at}
+use Rattle.engine.specs.Ops.{Bits, Agree, bit-at, spelt}
 use Rattle.engine.specs.Does.{Says}
 use Rattle.kind.specs.declared.rule.Rule.{Rule}
 use Rattle.kind.specs.Kinds.{Reading, Lawful}
@@ -26,7 +26,7 @@ use Rattle.filter.specs.Calls.{verdict}
 use Rattle.run.specs.declared.call.Call.{Call}
 use Rattle.run.specs.declared.call.Call.the-variants.{Add, Withdraw, Commit, Judge, Compare}
 use Rattle.run.specs.Calls.{asked}
-use Rattle.run.specs.Law.{Frame, Decides, Same-at, number, Adds, Decided, Agrees, Shows, Told, Answers}
+use Rattle.run.specs.Law.{Frame, Decides, Same-at, Adds, Decided, Agrees, Shows, Told, Answers}
 use Rattle.run.proofs.Judging.{decides-so, so-decides, decides-local, judges, same-at, at-same}
 use Rattle.run.proofs.Numbers.{number-below}
 
@@ -44,7 +44,7 @@ module _ (k : Reading) (law : Lawful k) where
     bits = there .0;
     taken = (law .whole (p .bits), there .1);
     differs = λ same. p .least .differ (judged-local (k .bits) (b .live) (p .bits) (bit-at (there .0)) back ∙ at-same (k .bits) b (bit-at (there .0)) same ∙ sym (judged-local (k .bits) (b .draft) (p .bits) (bit-at (there .0)) back));
-    least = λ f t frame apart. above (number (k .bits) (bit-at (there .0))) (number (k .bits) (bit-at t)) (λ less. p .least .least (bit-at t) (λ e. apart (same-at (k .bits) b (bit-at t) e)) (below (bit-at t) (number-below (k .bits) (bit-at t) (bit-at (there .0)) less)));
+    least = λ f t frame apart. above (spelt (k .bits) (bit-at (there .0))) (spelt (k .bits) (bit-at t)) (λ less. p .least .least (bit-at t) (λ e. apart (same-at (k .bits) b (bit-at t) e)) (below (bit-at t) (number-below (k .bits) (bit-at t) (bit-at (there .0)) less)));
     answer = p .answer;
   }
     where

@@ -10,7 +10,7 @@ use Rattle.std.specs.declared.result.Result.{Result}
 use Rattle.std.specs.declared.result.Result.the-variants.{Ok, Err}
 use Rattle.std.specs.declared.option.Option.{Option}
 use Rattle.std.specs.declared.option.Option.the-variants.{Some, None}
-use Rattle.engine.specs.Ops.{Agree, bit-at}
+use Rattle.engine.specs.Ops.{Agree, bit-at, spelt}
 use Rattle.engine.specs.Does.{Says}
 use Rattle.kind.specs.declared.rule.Rule.{Rule}
 use Rattle.kind.specs.declared.rule.Action.{Action}
@@ -24,7 +24,7 @@ use Rattle.filter.specs.Calls.{refusal, drawn, verdict, no-room}
 use Rattle.run.specs.declared.call.Call.{Call}
 use Rattle.run.specs.declared.call.Call.the-variants.{Add, Withdraw, Commit, Judge, Compare}
 use Rattle.run.specs.Calls.{asked}
-use Rattle.run.specs.Law.{Frame, Decides, number, Shows, Told, Answers, Holds, Together, lacks}
+use Rattle.run.specs.Law.{Frame, Decides, Shows, Told, Answers, Holds, Together, lacks}
 use Rattle.run.proofs.Judging.{split, judges-only}
 use Rattle.run.proofs.Numbers.{number-same}
 
@@ -43,7 +43,7 @@ module _ (k : Reading) (law : Lawful k) where
       equal x y h l = omega arith
 
       bits : Agree (k .bits) (bit-at (p .bits)) (bit-at (q .bits))
-      bits = number-same (k .bits) (bit-at (p .bits)) (bit-at (q .bits)) (equal (number (k .bits) (bit-at (p .bits))) (number (k .bits) (bit-at (q .bits))) (p .least (q .frame) (q .bits) (q .taken) (q .differs)) (q .least (p .frame) (p .bits) (p .taken) (p .differs)))
+      bits = number-same (k .bits) (bit-at (p .bits)) (bit-at (q .bits)) (equal (spelt (k .bits) (bit-at (p .bits))) (spelt (k .bits) (bit-at (q .bits))) (p .least (q .frame) (q .bits) (q .taken) (q .differs)) (q .least (p .frame) (p .bits) (p .taken) (p .differs)))
 
   same-told : (b : Books) (c : Call) (a z : Answer) → Told k b c a → Told k b c z → lacks a ≡ false → lacks z ≡ false → a ≡ z
   same-told b (Add line) a z (inl p) (inl q) u v =

@@ -1,15 +1,15 @@
 -- The law over whole runs of calls, in the words of rules, books and frames.
 use mathlib.Core.Path.{_≡_}
-use mathlib.Core.Bool.{Bool, true, false, cond}
+use mathlib.Core.Bool.{Bool, true, false}
 use mathlib.Core.List.{List, [], _∷_, _++_}
 use mathlib.Core.Logic.{_⊎_}
-use Prim.Native.Nat.{ℕ, zero, suc, _+_, _*_, _≤_}
+use Prim.Native.Nat.{ℕ, zero, suc, _+_, _≤_}
 use lib.ListN.{length, replicate}
 use Rattle.std.specs.declared.result.Result.the-variants.{Ok}
 use Rattle.std.specs.declared.option.Option.{Option}
 use Rattle.std.specs.declared.option.Option.the-variants.{Some, None}
 use Rattle.engine.specs.declared.fault.EngineFault.the-variants as engine
-use Rattle.engine.specs.Ops.{Bits, bit-at}
+use Rattle.engine.specs.Ops.{Bits, bit-at, spelt}
 use Rattle.engine.specs.Does.{Says}
 use Rattle.kind.specs.declared.rule.Rule.{Rule}
 use Rattle.kind.specs.declared.rule.Action.{Action}
@@ -50,11 +50,6 @@ Judged-once = (n : ℕ) (rs : List Rule) (s : Bits) → (x : Action) × Judges n
 abbrev pub Same-at : ℕ → Books → Bits → Type 0
 Same-at n b s = (x y : Action) → Judges n (b .live) s x → Judges n (b .draft) s y → x ≡ y
 
--- bits 1 to n read as a number, bit 1 highest
-abbrev pub number : ℕ → Bits → ℕ
-number zero s = 0
-number (suc v) s = 2 * number v s + cond (s (suc v)) 1 0
-
 -- an add tells the rule's number, and idle exactly where the rule decides no frame in the draft that it now stands in
 pub record Adds (k : Reading) (b : Books) (line : List ℕ) (a : Answer) : Type 0 where
   pub rule : Rule
@@ -77,13 +72,13 @@ pub record Agrees (k : Reading) (b : Books) (a : Answer) : Type 0 where
   pub same : (f t : List ℕ) → Frame k f t → Same-at (k .bits) b (bit-at t)
   pub answer : a ≡ Alike
 
--- otherwise it shows a frame that they judge differently, and no frame with a smaller number is judged differently
+-- otherwise it shows a frame that they judge differently, and no frame with a smaller number, its bits read with bit 1 highest, is judged differently
 pub record Shows (k : Reading) (b : Books) (a : Answer) : Type 0 where
   pub frame : List ℕ
   pub bits : List ℕ
   pub taken : Frame k frame bits
   pub differs : Same-at (k .bits) b (bit-at bits) → ⊥
-  pub least : (f t : List ℕ) → Frame k f t → (Same-at (k .bits) b (bit-at t) → ⊥) → number (k .bits) (bit-at bits) ≤ number (k .bits) (bit-at t)
+  pub least : (f t : List ℕ) → Frame k f t → (Same-at (k .bits) b (bit-at t) → ⊥) → spelt (k .bits) (bit-at bits) ≤ spelt (k .bits) (bit-at t)
   pub answer : a ≡ Differs (over frame (replicate 18 0))
 
 -- what a call that is not refused beforehand is answered; only the room is left open by the books

@@ -1,1 +1,4 @@
 pub mod Faults
+pub mod Split
+pub mod Lines
+pub mod Hexadecimal

@@ -1,3 +1,6 @@
-//! Rule lines as text: fields with their places.
+//! Rule lines as text: fields with their places, and hexadecimal.
 pub mod fault;
 pub mod fields;
+pub mod hex;
+pub mod line;
+pub mod split;

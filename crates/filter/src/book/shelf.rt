@@ -12,7 +12,7 @@ use kind::rule::Rule;
 
 impl Book {
     // An empty book.
-    pub fn new() -> Book
+    pub(crate) fn new() -> Book
         ensures { λ r. ⌜ held-in r ≡ [] ⌝ }
     {
         let rule = Rule {
@@ -27,14 +27,14 @@ impl Book {
     }
 
     // How many rules the book holds.
-    pub fn len(&self) -> usize
+    pub(crate) fn len(&self) -> usize
         ensures { λ r. ⌜ r ≡ length (held-in (now (self .entry))) ⌝ ∗ ⌜ r ≡ now (self .entry) .count ⌝ }
     {
         self.count
     }
 
     // The rules, in their order.
-    pub fn rules(&self) -> &[Rule]
+    pub(crate) fn rules(&self) -> &[Rule]
         ensures { λ r. ⌜ now r ≡ held-in (now (self .entry)) ⌝ }
     {
         &self.rules[0..self.count]

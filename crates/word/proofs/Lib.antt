@@ -1,0 +1,3 @@
+pub mod Bits
+mod Meaning
+pub mod Spelling
