@@ -1,10 +1,10 @@
 ghost use mathlib.Core.Path.{_≡_};
-ghost use Rattle.std.specs.shelf.Text.{sameBytes};
 ghost use Rattle.kind.specs.Actions.{action-of, action-word};
 ghost use Rattle.kind.specs.Rules.{blocks, Matching};
 use engine::assignment::Assignment;
 use text::fault::LineFault;
 use text::fields::Field;
+use text::word::is_word;
 
 // The word for a rule that blocks.
 pub const BLOCK: &[u8] = b"block";
@@ -26,13 +26,6 @@ pub struct Rule {
     pub value: Assignment,
     // the bits that count
     pub care: Assignment,
-}
-
-// Whether a text is this word.
-fn is_word(text: &[u8], word: &[u8]) -> bool
-    ensures { λ r. ⌜ r ≡ sameBytes (now (text .entry)) (now (word .entry)) ⌝ }
-{
-    text == word
 }
 
 impl Action {

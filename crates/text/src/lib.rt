@@ -4,3 +4,4 @@ pub mod fields;
 pub mod hex;
 pub mod line;
 pub mod split;
+pub mod word;

@@ -1,0 +1,3 @@
+//! The commands of a script, a line each.
+pub mod command;
+pub mod decimal;
