@@ -96,4 +96,3 @@ alike-or-least n xs ys = go (scan d n local n 0 (omega arith) (λ _. false))
         least = λ t h b. low t (λ u x y. absurd (omega arith)) (apart-true (judged n xs) (judged n ys) t h) b;
       },
     )
-

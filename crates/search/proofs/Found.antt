@@ -193,4 +193,3 @@ module _ (R : Rooms) (n : ℕ) (live draft : List Rule) (e : View (R .Shape)) (m
       let w = ran-regs R at e′ (sweep-steps []) (swept .goes []) in
       let same : (x : ℕ) → own x ≡ false → at .regs x ≡ meaning n live draft x = λ x o. t .2 x o ∙ ap (λ (m : Regs). m x) means in
       (t .0, w .0 ∙ t .1, w .1 ∙ fun-ext (swept-regs n live draft (at .regs) same))
-

@@ -1,4 +1,4 @@
 //! The search for the least frame that two registers judge differently.
+mod bits;
 pub mod least;
 pub mod places;
-mod bits;

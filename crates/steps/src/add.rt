@@ -62,7 +62,13 @@ fn join<E: Engine>(e: &mut E, w: Scratch, d: u8, a: u8, b: u8) -> Result<(), Eng
 }
 
 // The frames that the rule matches, and those of them that are not in register m.
-pub(crate) fn find<E: Engine>(e: &mut E, w: Scratch, rule: &Rule, n: u8, m: u8) -> Result<(), EngineFault>
+pub(crate) fn find<E: Engine>(
+    e: &mut E,
+    w: Scratch,
+    rule: &Rule,
+    n: u8,
+    m: u8,
+) -> Result<(), EngineFault>
     ensures { λ r. ⌜ Ran (E·Engine .rooms) (find-steps w m (now (rule .entry)) n) (E·Engine .view (now (e .entry))) (E·Engine .view (now (e .exit))) r ⌝ }
 {
     build(e, w, rule, n)?;
@@ -72,7 +78,13 @@ pub(crate) fn find<E: Engine>(e: &mut E, w: Scratch, rule: &Rule, n: u8, m: u8) 
 }
 
 // The frames matched and, for block, blocked with the rule, from those matched (m) and blocked (b) before it.
-pub(crate) fn keep<E: Engine>(e: &mut E, w: Scratch, rule: &Rule, m: u8, b: u8) -> Result<(), EngineFault>
+pub(crate) fn keep<E: Engine>(
+    e: &mut E,
+    w: Scratch,
+    rule: &Rule,
+    m: u8,
+    b: u8,
+) -> Result<(), EngineFault>
     ensures { λ r. ⌜ Ran (E·Engine .rooms) (keep-steps w m b (now (rule .entry))) (E·Engine .view (now (e .entry))) (E·Engine .view (now (e .exit))) r ⌝ }
 {
     if rule.action.is_block() {
