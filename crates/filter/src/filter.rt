@@ -1,4 +1,7 @@
 ghost use mathlib.Core.Path.{_≡_};
+ghost use Rattle.std.specs.declared.result.Result.the-variants.{Ok};
+ghost use Rattle.engine.specs.Rows.{Ran};
+ghost use Rattle.steps.specs.Steps.{wipe-steps};
 ghost use Rattle.filter.specs.Books.{books, no-rules};
 ghost use Rattle.filter.specs.Calls.{Asked};
 ghost use Rattle.filter.specs.Answers.{added-as, committed-as, judged-as, withdrawn-as, compared-as, Stays};
@@ -34,6 +37,7 @@ pub struct Filter<K: Kind, E: DecidingEngine> {
 impl<K: Kind, E: DecidingEngine> Filter<K, E> {
     // A filter with empty books; every register becomes false.
     pub fn new(kind: K, engine: E) -> Filter<K, E>
+        ensures row { λ r. ⌜ Ran {A = Unit {0}} (E·Engine .rooms) wipe-steps (E·Engine .view engine) (E·Engine .view (r .engine)) (Ok tt) ⌝ }
         ensures vars { λ r. ⌜ E·Engine .view (r .engine) .vars ≡ E·Engine .view engine .vars ⌝ }
         ensures books { λ r. ⌜ books (r .live) (r .draft) ≡ no-rules ⌝ }
         ensures sound { λ r. ⌜ Sound (K·Kind .reading) (E·Engine .view (r .engine)) no-rules ⌝ }

@@ -3,6 +3,7 @@ ghost use Rattle.std.specs.Of.Vec.{vec-items};
 ghost use Rattle.std.specs.Vec.{made};
 ghost use Rattle.filter.specs.Books.{no-rules};
 ghost use Rattle.run.specs.Law.{Holds, Together, Judged-once};
+ghost use Rattle.run.specs.Worked.{Worked, fresh};
 use crate::call::Call;
 use crate::perform::perform;
 use engine::calls::DecidingEngine;
@@ -19,7 +20,8 @@ pub fn run<K: Kind + Drop, E: DecidingEngine + Drop>(
     engine: E,
     calls: &[Call],
 ) -> Result<Vec<Answer>, AllocError>
-    ensures { λ r. ⌜ made r (λ v. Holds (K·Kind .reading) (E·Engine .view engine .vars) no-rules (now (calls .entry)) (vec-items v)) ⌝ }
+    ensures law { λ r. ⌜ made r (λ v. Holds (K·Kind .reading) (E·Engine .view engine .vars) no-rules (now (calls .entry)) (vec-items v)) ⌝ }
+    ensures rooms { λ r. ⌜ made r (λ v. Worked (E·Engine .rooms) (K·Kind .reading) (fresh (E·Engine .rooms) (E·Engine .view engine)) no-rules (now (calls .entry)) (vec-items v)) ⌝ }
 {
     let mut filter = Filter::new(kind, engine);
     let mut answers = Vec::new(heap);

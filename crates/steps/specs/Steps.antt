@@ -1,7 +1,7 @@
 -- The engine calls of each call of a filter, each part put before any others. w names the scratch registers.
 use mathlib.Core.Bool.{Bool, true, false, cond}
 use mathlib.Core.List.{List, [], _∷_}
-use Prim.Native.Nat.{ℕ, zero, suc}
+use Prim.Native.Nat.{ℕ, zero, suc, _+_}
 use Rattle.engine.specs.Ops.{Op, bit-at}
 use Rattle.kind.specs.declared.rule.Rule.{Rule}
 use Rattle.kind.specs.Rules.{blocks}
@@ -10,6 +10,15 @@ use Rattle.steps.specs.declared.scratch.Scratch.{Scratch}
 -- the scratch registers of a filter: 3 to 11
 abbrev pub scratch : Scratch
 scratch = record { rule = 3; literal = 4; negated = 5; left = 6; right = 7; both = 8; fresh = 9; matched = 10; blocked = 11 }
+
+-- the k registers from d on become false
+abbrev pub clears : ℕ → ℕ → List Op → List Op
+clears d zero rest = rest
+clears d (suc k) rest = Op.clear d ∷ clears (d + 1) k rest
+
+-- every register becomes false
+abbrev pub wipe-steps : List Op → List Op
+wipe-steps rest = clears 0 16 rest
 
 -- where bit v counts, the rule's register is met with the literal, negated for value 0, the literal first
 abbrev pub bit-steps : Scratch → Rule → ℕ → List Op → List Op

@@ -4,7 +4,7 @@ use lib.ListN.{take, length}
 use Rattle.std.specs.Of.Vec.{vec-items}
 use Rattle.filter.specs.Books.{books, no-rules}
 use Rattle.filter.specs.Turns.{Sound}
-use Rattle.run.proofs.Runs.{Honest, after-all}
+use Rattle.run.proofs.Runs.{Honest, after-all, Trail}
 use Rattle.run.proofs.run.run.Given as given
 
 abbrev pub Inv-loop-call : given.InvT-loop-call
@@ -17,3 +17,4 @@ Inv-loop-call g l =
     × Sound k e b
     × Honest k (e .vars) no-rules (take (l .call-index) (l .calls)) (vec-items (l .answers))
     × (b ≡ after-all k no-rules (take (l .call-index) (l .calls)) (vec-items (l .answers)))
+    × Trail (g .E·Engine .rooms) k (g .E·Engine .view (l .entry .filter .engine)) no-rules (take (l .call-index) (l .calls)) (vec-items (l .answers)) e
