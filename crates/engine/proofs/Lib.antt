@@ -1,4 +1,5 @@
 pub mod Assignments
 pub mod Puts
 pub mod Rows
+pub mod Tables
 pub mod Tidy

@@ -9,7 +9,7 @@ use Rattle.std.specs.declared.result.Result.the-variants.{Ok, Err}
 use Rattle.engine.specs.declared.fault.EngineFault.{EngineFault}
 use Rattle.engine.specs.declared.fault.EngineFault.the-variants.{Register, Variable, Room}
 use Rattle.engine.specs.Ops.{Op, may-lack, regs-in, var-in, after, Regs}
-use Rattle.engine.specs.Does.{Does, Rooms, View, landed, moved, answer}
+use Rattle.engine.specs.Does.{Does, Rooms, View, moved, answer}
 use Rattle.engine.specs.Rows.{Ran, ran, follow}
 
 -- one call is a row of one

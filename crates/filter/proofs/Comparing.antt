@@ -1,22 +1,20 @@
 -- Turns of a compare.
 use mathlib.Core.Path.{_≡_, refl, sym, ap, _∙_, subst}
-use mathlib.Core.Bool.{Bool, true, false, cond}
 use mathlib.Core.List.{List, [], _∷_}
-use mathlib.Core.Logic.{_⊎_, inl, inr}
+use mathlib.Core.Logic.{inl, inr}
 use Prim.Native.Nat.{ℕ}
 use native.Mathlib.Omega.{arith}
-use lib.Dec.{eqb}
 use borrow.Author.Tests.{eq-eqb}
 use Rattle.std.specs.declared.result.Result.the-variants.{Ok, Err}
 use Rattle.std.specs.declared.option.Option.{Option}
 use Rattle.std.specs.declared.option.Option.the-variants.{Some, None}
 use Rattle.engine.specs.declared.fault.EngineFault.{EngineFault}
-use Rattle.engine.specs.Ops.{Op, Bits, bit-at}
+use Rattle.engine.specs.Ops.{Op, bit-at}
 use Rattle.engine.specs.Does.{Rooms, View}
 use Rattle.engine.specs.Rows.{ran}
 use Rattle.kind.specs.Kinds.{Reading, over}
 use Rattle.kind.specs.Rules.{judged}
-use Rattle.search.specs.Steps.{places, differ-steps, hunt-steps, alike-steps, least-steps}
+use Rattle.search.specs.Steps.{places, differ-steps, alike-steps, least-steps}
 use Rattle.search.specs.Least.{Least}
 use Rattle.search.specs.Seeks.{Finds}
 use Rattle.search.proofs.Seeking.{least-unique}

@@ -1,11 +1,10 @@
 -- Turns of a filter, from what its engine did.
 use mathlib.Core.Path.{_≡_, refl, sym, ap, _∙_, subst}
-use mathlib.Core.Bool.{Bool, true, false, cond}
+use mathlib.Core.Bool.{Bool, cond}
 use mathlib.Core.List.{List, [], _∷_, _++_}
-use mathlib.Core.Logic.{_⊎_, inl, inr}
+use mathlib.Core.Logic.{inl, inr}
 use Prim.Native.Nat.{ℕ, _+_, _≤_, _<_}
 use native.Mathlib.Omega.{arith}
-use lib.Dec.{eqb}
 use lib.ListN.{length}
 use borrow.Author.Tests.{eq-eqb, lt-ltb, le-ltb}
 use Rattle.std.specs.declared.result.Result.{Result}
@@ -13,7 +12,7 @@ use Rattle.std.specs.declared.result.Result.the-variants.{Ok, Err}
 use Rattle.std.specs.declared.option.Option.{Option}
 use Rattle.std.specs.declared.option.Option.the-variants.{Some, None}
 use Rattle.engine.specs.declared.fault.EngineFault.{EngineFault}
-use Rattle.engine.specs.Ops.{Op, Bits, Regs, within, bit-at}
+use Rattle.engine.specs.Ops.{Op, Regs, within, bit-at}
 use Rattle.engine.specs.Does.{Rooms, View, Does, moved}
 use Rattle.engine.specs.Rows.{ran}
 use Rattle.kind.specs.declared.rule.Rule.{Rule}
@@ -29,7 +28,7 @@ use Rattle.filter.specs.declared.answer.Answer.the-variants.{Added, Verdict, R
 use Rattle.filter.specs.declared.fault.FilterFault.{FilterFault}
 use Rattle.filter.specs.declared.fault.FilterFault.the-variants as fault
 use Rattle.filter.specs.Books.{Books}
-use Rattle.filter.specs.Calls.{Asked, adding, judging, verdict, refusal, fit-refusal, By, drawn, changed}
+use Rattle.filter.specs.Calls.{Asked, adding, judging, refusal, fit-refusal, By, drawn}
 use Rattle.filter.specs.Turns.{Sound, Turn, Went, Made, Steps, settled}
 
 -- a row that is answered

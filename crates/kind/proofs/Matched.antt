@@ -1,6 +1,6 @@
 -- The test for a match and the relation.
 use mathlib.Core.Path.{_≡_, refl, sym, ap, _∙_}
-use mathlib.Core.Bool.{Bool, true, false, cond, not, _&&_}
+use mathlib.Core.Bool.{Bool, true, false, cond, not}
 use mathlib.Core.Logic.{_⊎_, inl, inr}
 use Prim.Native.Nat.{ℕ, zero, suc, _+_, _≤_, _<_}
 use native.Mathlib.Omega.{arith}
@@ -8,7 +8,7 @@ use native.Mathlib.Decide.{decLt}
 use Rattle.engine.specs.Ops.{Bits, bit-at}
 use Rattle.engine.proofs.Tidy.{and-l, and-r}
 use Rattle.kind.specs.declared.rule.Rule.{Rule}
-use Rattle.kind.specs.Rules.{agrees-at, agrees, matches, Matches, Matching}
+use Rattle.kind.specs.Rules.{agrees-at, agrees, Matching}
 
 -- the rule agrees with the frame at the bit, as a relation
 abbrev AgreesAt : Rule → Bits → ℕ → Type 0

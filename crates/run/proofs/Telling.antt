@@ -1,8 +1,8 @@
 -- What the filter's answers tell, over frames.
-use mathlib.Core.Path.{_≡_, refl, sym, ap, _∙_}
-use mathlib.Core.Bool.{Bool, true, false}
+use mathlib.Core.Path.{_≡_, sym, _∙_}
+use mathlib.Core.Bool.{Bool}
 use mathlib.Core.List.{List, [], _∷_, _++_}
-use mathlib.Core.Logic.{_⊎_, inl, inr}
+use mathlib.Core.Logic.{inl, inr}
 use Prim.Native.Nat.{ℕ, _≤_, _<_}
 use native.Mathlib.Omega.{arith}
 use native.Mathlib.Decide.{decLt}
@@ -16,7 +16,7 @@ use Rattle.kind.specs.declared.rule.Rule.{Rule}
 use Rattle.kind.specs.Kinds.{Reading, Lawful}
 use Rattle.kind.specs.Rules.{judged}
 use Rattle.steps.specs.Meaning.{Decides as Decides-by}
-use Rattle.search.specs.Least.{Below, Least}
+use Rattle.search.specs.Least.{Below}
 use Rattle.search.proofs.Seeking.{judged-local}
 use Rattle.filter.specs.declared.answer.Answer.{Answer}
 use Rattle.filter.specs.declared.fault.FilterFault.{FilterFault}
@@ -26,7 +26,7 @@ use Rattle.filter.specs.Calls.{verdict}
 use Rattle.run.specs.declared.call.Call.{Call}
 use Rattle.run.specs.declared.call.Call.the-variants.{Add, Withdraw, Commit, Judge, Compare}
 use Rattle.run.specs.Calls.{asked}
-use Rattle.run.specs.Law.{Frame, Decides, Same-at, Adds, Decided, Agrees, Shows, Told, Answers}
+use Rattle.run.specs.Law.{Frame, Decides, Shows, Told, Answers}
 use Rattle.run.proofs.Judging.{decides-so, so-decides, decides-local, judges, same-at, at-same}
 use Rattle.run.proofs.Numbers.{number-below}
 

@@ -1,19 +1,18 @@
 -- The law leaves one answer to each call, but for want of room.
-use mathlib.Core.Path.{_≡_, refl, sym, ap, _∙_, subst}
-use mathlib.Core.Bool.{Bool, true, false}
+use mathlib.Core.Path.{_≡_, sym, ap, _∙_, subst}
+use mathlib.Core.Bool.{false}
 use mathlib.Core.List.{List, [], _∷_, _++_}
-use mathlib.Core.Logic.{_⊎_, inl, inr}
+use mathlib.Core.Logic.{inl, inr}
 use Prim.Native.Nat.{ℕ, _≤_}
 use native.Mathlib.Omega.{arith}
 use lib.ListN.{length, replicate}
 use Rattle.std.specs.declared.result.Result.{Result}
-use Rattle.std.specs.declared.result.Result.the-variants.{Ok, Err}
+use Rattle.std.specs.declared.result.Result.the-variants.{Ok}
 use Rattle.std.specs.declared.option.Option.{Option}
 use Rattle.std.specs.declared.option.Option.the-variants.{Some, None}
 use Rattle.engine.specs.Ops.{Agree, bit-at, spelt}
 use Rattle.engine.specs.Does.{Says}
 use Rattle.kind.specs.declared.rule.Rule.{Rule}
-use Rattle.kind.specs.declared.rule.Action.{Action}
 use Rattle.kind.specs.Kinds.{Reading, Lawful, over}
 use Rattle.search.proofs.Picks.{same-says}
 use Rattle.filter.specs.declared.answer.Answer.{Answer}

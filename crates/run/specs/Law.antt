@@ -13,7 +13,7 @@ use Rattle.engine.specs.Ops.{Bits, bit-at, spelt}
 use Rattle.engine.specs.Does.{Says}
 use Rattle.kind.specs.declared.rule.Rule.{Rule}
 use Rattle.kind.specs.declared.rule.Action.{Action}
-use Rattle.kind.specs.declared.rule.Action.the-variants.{Block, Pass}
+use Rattle.kind.specs.declared.rule.Action.the-variants.{Pass}
 use Rattle.kind.specs.Kinds.{Reading, Bytes, over}
 use Rattle.kind.specs.Rules.{Matches}
 use Rattle.filter.specs.declared.answer.Added.{Added as Done}

@@ -1,95 +1,28 @@
 -- Single bits of a byte.
 use mathlib.Core.Path.{_≡_, refl, sym, ap, _∙_}
-use mathlib.Core.Bool.{Bool, true, false, cond, _&&_}
+use mathlib.Core.Bool.{Bool, true, false, cond}
 use mathlib.Core.List.{List}
 use mathlib.Core.Logic.{_⊎_, inl, inr}
-use Prim.Native.Nat.{ℕ, zero, suc, _+_, _-_, _*_, _/_, _%_, _^_, _≤_, _<_}
+use Prim.Native.Nat.{ℕ, zero, suc, _-_, _/_, _%_, _^_, _≤_, _<_}
 use native.Mathlib.Omega.{arith}
 use lib.Dec.{eqb}
 use lib.Bits.{bitOr, or-zero-r}
 use lib.ListN.{length, getD, set}
 use lib.Seq.{getD-set-same, getD-set-other}
-use borrow.Author.Tests.{eq-eqb, ne-eqb, both-ways}
+use borrow.Author.Tests.{eq-eqb, ne-eqb, eqb-true, both-ways}
 use Rattle.std.proofs.shelf.Bits.{or-shr, or-mod}
 use Rattle.engine.specs.Ops.{bit-at}
 use Rattle.engine.proofs.Puts.{by-eq}
+use Rattle.engine.proofs.Tables.{each, each-at}
 use Rattle.search.specs.Assigned.{Assigned}
+
+-- whether bit k of 2 ^ j is as it should be
+abbrev lone : ℕ → ℕ → Bool
+lone j k = eqb ((2 ^ j / 2 ^ k) % 2) (cond (eqb j k) 1 0)
 
 -- bit k of 2 ^ j
 pow-bit : (j k : ℕ) → j < 8 → k < 8 → (2 ^ j / 2 ^ k) % 2 ≡ cond (eqb j k) 1 0
-pow-bit zero zero h l = refl
-pow-bit zero (suc zero) h l = refl
-pow-bit zero (suc (suc zero)) h l = refl
-pow-bit zero (suc (suc (suc zero))) h l = refl
-pow-bit zero (suc (suc (suc (suc zero)))) h l = refl
-pow-bit zero (suc (suc (suc (suc (suc zero))))) h l = refl
-pow-bit zero (suc (suc (suc (suc (suc (suc zero)))))) h l = refl
-pow-bit zero (suc (suc (suc (suc (suc (suc (suc zero))))))) h l = refl
-pow-bit zero (suc (suc (suc (suc (suc (suc (suc (suc k)))))))) h l = absurd (omega arith)
-pow-bit (suc zero) zero h l = refl
-pow-bit (suc zero) (suc zero) h l = refl
-pow-bit (suc zero) (suc (suc zero)) h l = refl
-pow-bit (suc zero) (suc (suc (suc zero))) h l = refl
-pow-bit (suc zero) (suc (suc (suc (suc zero)))) h l = refl
-pow-bit (suc zero) (suc (suc (suc (suc (suc zero))))) h l = refl
-pow-bit (suc zero) (suc (suc (suc (suc (suc (suc zero)))))) h l = refl
-pow-bit (suc zero) (suc (suc (suc (suc (suc (suc (suc zero))))))) h l = refl
-pow-bit (suc zero) (suc (suc (suc (suc (suc (suc (suc (suc k)))))))) h l = absurd (omega arith)
-pow-bit (suc (suc zero)) zero h l = refl
-pow-bit (suc (suc zero)) (suc zero) h l = refl
-pow-bit (suc (suc zero)) (suc (suc zero)) h l = refl
-pow-bit (suc (suc zero)) (suc (suc (suc zero))) h l = refl
-pow-bit (suc (suc zero)) (suc (suc (suc (suc zero)))) h l = refl
-pow-bit (suc (suc zero)) (suc (suc (suc (suc (suc zero))))) h l = refl
-pow-bit (suc (suc zero)) (suc (suc (suc (suc (suc (suc zero)))))) h l = refl
-pow-bit (suc (suc zero)) (suc (suc (suc (suc (suc (suc (suc zero))))))) h l = refl
-pow-bit (suc (suc zero)) (suc (suc (suc (suc (suc (suc (suc (suc k)))))))) h l = absurd (omega arith)
-pow-bit (suc (suc (suc zero))) zero h l = refl
-pow-bit (suc (suc (suc zero))) (suc zero) h l = refl
-pow-bit (suc (suc (suc zero))) (suc (suc zero)) h l = refl
-pow-bit (suc (suc (suc zero))) (suc (suc (suc zero))) h l = refl
-pow-bit (suc (suc (suc zero))) (suc (suc (suc (suc zero)))) h l = refl
-pow-bit (suc (suc (suc zero))) (suc (suc (suc (suc (suc zero))))) h l = refl
-pow-bit (suc (suc (suc zero))) (suc (suc (suc (suc (suc (suc zero)))))) h l = refl
-pow-bit (suc (suc (suc zero))) (suc (suc (suc (suc (suc (suc (suc zero))))))) h l = refl
-pow-bit (suc (suc (suc zero))) (suc (suc (suc (suc (suc (suc (suc (suc k)))))))) h l = absurd (omega arith)
-pow-bit (suc (suc (suc (suc zero)))) zero h l = refl
-pow-bit (suc (suc (suc (suc zero)))) (suc zero) h l = refl
-pow-bit (suc (suc (suc (suc zero)))) (suc (suc zero)) h l = refl
-pow-bit (suc (suc (suc (suc zero)))) (suc (suc (suc zero))) h l = refl
-pow-bit (suc (suc (suc (suc zero)))) (suc (suc (suc (suc zero)))) h l = refl
-pow-bit (suc (suc (suc (suc zero)))) (suc (suc (suc (suc (suc zero))))) h l = refl
-pow-bit (suc (suc (suc (suc zero)))) (suc (suc (suc (suc (suc (suc zero)))))) h l = refl
-pow-bit (suc (suc (suc (suc zero)))) (suc (suc (suc (suc (suc (suc (suc zero))))))) h l = refl
-pow-bit (suc (suc (suc (suc zero)))) (suc (suc (suc (suc (suc (suc (suc (suc k)))))))) h l = absurd (omega arith)
-pow-bit (suc (suc (suc (suc (suc zero))))) zero h l = refl
-pow-bit (suc (suc (suc (suc (suc zero))))) (suc zero) h l = refl
-pow-bit (suc (suc (suc (suc (suc zero))))) (suc (suc zero)) h l = refl
-pow-bit (suc (suc (suc (suc (suc zero))))) (suc (suc (suc zero))) h l = refl
-pow-bit (suc (suc (suc (suc (suc zero))))) (suc (suc (suc (suc zero)))) h l = refl
-pow-bit (suc (suc (suc (suc (suc zero))))) (suc (suc (suc (suc (suc zero))))) h l = refl
-pow-bit (suc (suc (suc (suc (suc zero))))) (suc (suc (suc (suc (suc (suc zero)))))) h l = refl
-pow-bit (suc (suc (suc (suc (suc zero))))) (suc (suc (suc (suc (suc (suc (suc zero))))))) h l = refl
-pow-bit (suc (suc (suc (suc (suc zero))))) (suc (suc (suc (suc (suc (suc (suc (suc k)))))))) h l = absurd (omega arith)
-pow-bit (suc (suc (suc (suc (suc (suc zero)))))) zero h l = refl
-pow-bit (suc (suc (suc (suc (suc (suc zero)))))) (suc zero) h l = refl
-pow-bit (suc (suc (suc (suc (suc (suc zero)))))) (suc (suc zero)) h l = refl
-pow-bit (suc (suc (suc (suc (suc (suc zero)))))) (suc (suc (suc zero))) h l = refl
-pow-bit (suc (suc (suc (suc (suc (suc zero)))))) (suc (suc (suc (suc zero)))) h l = refl
-pow-bit (suc (suc (suc (suc (suc (suc zero)))))) (suc (suc (suc (suc (suc zero))))) h l = refl
-pow-bit (suc (suc (suc (suc (suc (suc zero)))))) (suc (suc (suc (suc (suc (suc zero)))))) h l = refl
-pow-bit (suc (suc (suc (suc (suc (suc zero)))))) (suc (suc (suc (suc (suc (suc (suc zero))))))) h l = refl
-pow-bit (suc (suc (suc (suc (suc (suc zero)))))) (suc (suc (suc (suc (suc (suc (suc (suc k)))))))) h l = absurd (omega arith)
-pow-bit (suc (suc (suc (suc (suc (suc (suc zero))))))) zero h l = refl
-pow-bit (suc (suc (suc (suc (suc (suc (suc zero))))))) (suc zero) h l = refl
-pow-bit (suc (suc (suc (suc (suc (suc (suc zero))))))) (suc (suc zero)) h l = refl
-pow-bit (suc (suc (suc (suc (suc (suc (suc zero))))))) (suc (suc (suc zero))) h l = refl
-pow-bit (suc (suc (suc (suc (suc (suc (suc zero))))))) (suc (suc (suc (suc zero)))) h l = refl
-pow-bit (suc (suc (suc (suc (suc (suc (suc zero))))))) (suc (suc (suc (suc (suc zero))))) h l = refl
-pow-bit (suc (suc (suc (suc (suc (suc (suc zero))))))) (suc (suc (suc (suc (suc (suc zero)))))) h l = refl
-pow-bit (suc (suc (suc (suc (suc (suc (suc zero))))))) (suc (suc (suc (suc (suc (suc (suc zero))))))) h l = refl
-pow-bit (suc (suc (suc (suc (suc (suc (suc zero))))))) (suc (suc (suc (suc (suc (suc (suc (suc k)))))))) h l = absurd (omega arith)
-pow-bit (suc (suc (suc (suc (suc (suc (suc (suc j)))))))) k h l = absurd (omega arith)
+pow-bit j k h l = eqb-true ((2 ^ j / 2 ^ k) % 2) (cond (eqb j k) 1 0) (each-at 8 (lone j) (each-at 8 (λ i. each 8 (lone i)) refl j h) k l)
 
 or-one : (x : ℕ) → x < 2 → bitOr x 1 ≡ 1
 or-one zero h = refl

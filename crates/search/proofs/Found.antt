@@ -3,12 +3,11 @@ use mathlib.Core.Path.{_≡_, refl, sym, ap, _∙_, fun-ext, subst}
 use mathlib.Core.Bool.{Bool, true, false, not, _&&_}
 use mathlib.Core.List.{List, [], _∷_}
 use mathlib.Core.Logic.{_⊎_, inl, inr}
-use Prim.Native.Nat.{ℕ, zero, suc, _+_, _≤_, _<_}
+use Prim.Native.Nat.{ℕ, zero, suc, _≤_}
 use native.Mathlib.Omega.{arith}
 use lib.Dec.{eqb}
 use borrow.Author.Tests.{eq-eqb, le-leb, both-ways}
 use Rattle.std.specs.declared.result.Result.the-variants.{Ok, Err}
-use Rattle.std.specs.declared.option.Option.{Option}
 use Rattle.std.specs.declared.option.Option.the-variants.{Some, None}
 use Rattle.engine.specs.declared.fault.EngineFault.{EngineFault}
 use Rattle.engine.specs.declared.fault.EngineFault.the-variants.{Room}
@@ -25,7 +24,7 @@ use Rattle.steps.specs.Meaning.{meaning}
 use Rattle.steps.proofs.Adding.{own, swept-regs}
 use Rattle.search.specs.Steps.{places, pick-steps, hunt-steps, differ-steps, alike-steps, least-steps}
 use Rattle.search.specs.Least.{Below, Least}
-use Rattle.search.specs.Seeks.{Chooses, Trail, Hunts, Seeks, Finds, Void}
+use Rattle.search.specs.Seeks.{Seeks, Finds, Void}
 use Rattle.search.proofs.Picks.{test-says}
 use Rattle.search.proofs.Seeking.{holding, Chosen, left, lowest, right-bit, as-least, flat, under, hunt-regs, differ-regs, apart, apart-true, apart-false, true-apart, judged-local, hold-in, trail-ran, trail-regs, trail-chosen}
 

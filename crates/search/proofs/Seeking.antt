@@ -1,13 +1,13 @@
 -- What the search for the least frame comes to.
 use mathlib.Core.Path.{_≡_, refl, sym, ap, _∙_, fun-ext, subst}
-use mathlib.Core.Bool.{Bool, true, false, cond, not, _&&_}
+use mathlib.Core.Bool.{Bool, true, false, not, _&&_}
 use mathlib.Core.List.{List, [], _∷_}
 use mathlib.Core.Logic.{_⊎_, inl, inr}
 use Prim.Native.Nat.{ℕ, zero, suc, _+_, _≤_, _<_}
 use native.Mathlib.Omega.{arith}
 use lib.Dec.{eqb}
 use borrow.Author.Tests.{ne-eqb, eq-eqb, both-ways}
-use Rattle.std.specs.declared.result.Result.the-variants.{Ok, Err}
+use Rattle.std.specs.declared.result.Result.the-variants.{Ok}
 use Rattle.engine.specs.Ops.{Op, Regs, Bits, put, held}
 use Rattle.engine.specs.Does.{Rooms, View, Says}
 use Rattle.engine.specs.Rows.{Ran, ran}
@@ -19,7 +19,7 @@ use Rattle.steps.specs.Meaning.{meaning}
 use Rattle.steps.proofs.Adding.{decide-bool, off3, off4, off5, off6, off7, off8, off9}
 use Rattle.search.specs.Steps.{places, pick-steps, hunt-steps, differ-steps}
 use Rattle.search.specs.Least.{Below, Least}
-use Rattle.search.specs.Seeks.{Chooses, Trail}
+use Rattle.search.specs.Seeks.{Trail}
 use Rattle.search.proofs.Picks.{same-says}
 
 -- variables 1 to k are held as p has them

@@ -19,7 +19,7 @@ use Rattle.engine.proofs.Tidy.{tidy-all, ran-tidy, and-l, and-r}
 use Rattle.kind.specs.declared.rule.Rule.{Rule}
 use Rattle.kind.specs.Rules.{agrees, agrees-at, matches, matched, judged, blocks}
 use Rattle.steps.specs.Steps.{scratch, bit-steps, bits-steps, rule-steps, join-steps, keep-steps, find-steps, work-steps, store-steps, sweep-steps}
-use Rattle.steps.specs.Works.{Works, Admits}
+use Rattle.steps.specs.Works.{Admits}
 use Rattle.steps.specs.Meaning.{meaning, Decides}
 
 and-true : (a : Bool) → (a && true) ≡ a

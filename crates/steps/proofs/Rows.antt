@@ -1,6 +1,6 @@
 -- The rows of an add, put together.
-use mathlib.Core.Path.{_≡_, refl, sym, ap, _∙_}
-use mathlib.Core.Bool.{Bool, true, false, cond}
+use mathlib.Core.Path.{_≡_, sym, ap, _∙_}
+use mathlib.Core.Bool.{Bool, true, false}
 use mathlib.Core.List.{List, [], _∷_}
 use Prim.Native.Nat.{ℕ, zero, suc, _-_, _<_}
 use native.Mathlib.Omega.{arith}
@@ -8,7 +8,7 @@ use Rattle.std.specs.declared.result.Result.{Result}
 use Rattle.std.specs.declared.result.Result.the-variants.{Ok, Err}
 use Rattle.engine.specs.declared.fault.EngineFault.{EngineFault}
 use Rattle.engine.specs.Ops.{Op, regs-in}
-use Rattle.engine.specs.Does.{Rooms, View, Tests, Says}
+use Rattle.engine.specs.Does.{Rooms, View, Tests}
 use Rattle.engine.specs.Rows.{Ran}
 use Rattle.engine.proofs.Rows.{row, next, stop, retell, told-value}
 use Rattle.kind.specs.declared.rule.Rule.{Rule}

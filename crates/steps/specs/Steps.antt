@@ -1,5 +1,5 @@
 -- The engine calls of each call of a filter, each part put before any others. w names the scratch registers.
-use mathlib.Core.Bool.{Bool, true, false, cond}
+use mathlib.Core.Bool.{true, false, cond}
 use mathlib.Core.List.{List, [], _∷_}
 use Prim.Native.Nat.{ℕ, zero, suc, _+_}
 use Rattle.engine.specs.Ops.{Op, bit-at}

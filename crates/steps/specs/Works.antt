@@ -1,12 +1,12 @@
 -- What the steps of an add do to an engine.
 use mathlib.Core.Path.{_≡_}
-use mathlib.Core.Bool.{Bool, true, false}
-use mathlib.Core.List.{List, [], _∷_}
+use mathlib.Core.Bool.{Bool, false}
+use mathlib.Core.List.{List, []}
 use Prim.Native.Nat.{ℕ}
 use Rattle.std.specs.declared.result.Result.{Result}
 use Rattle.std.specs.declared.result.Result.the-variants.{Ok, Err}
 use Rattle.engine.specs.declared.fault.EngineFault.{EngineFault}
-use Rattle.engine.specs.Ops.{Op, Bits}
+use Rattle.engine.specs.Ops.{Bits}
 use Rattle.engine.specs.Does.{Rooms, View, Says}
 use Rattle.engine.specs.Rows.{Ran, ran}
 use Rattle.kind.specs.declared.rule.Rule.{Rule}

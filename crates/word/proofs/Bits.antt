@@ -10,7 +10,8 @@ use lib.Bits.{bitAnd, bitXor, and-shr, and-mod, xor-shr, xor-mod}
 use lib.Pow.{shr-shr, shl-shr, field, mod-mod-pow, mod-pow-add}
 use lib.Dec.{eqb}
 use Rattle.std.proofs.shelf.Bits.{pow-pos}
-use Rattle.std.proofs.shelf.Tests.{eq-eqb, ne-eqb, and-parts}
+use Rattle.std.proofs.shelf.Tests.{eq-eqb, ne-eqb}
+use Rattle.engine.proofs.Tables.{each, each-at}
 use Rattle.word.specs.Words.{bit, number}
 
 -- a remainder by 2 is 0 or 1
@@ -135,19 +136,6 @@ ones-bit (suc k) (suc i) h =
     let q : 0 < 2 ^ k = pow-pos k in
     let e : (2 ^ suc k - 1) / 2 ≡ 2 ^ k - 1 = omega arith in
     halved (2 ^ suc k - 1) i ∙ ap (λ (y : ℕ). bit y i) e ∙ ones-bit k i (omega arith)
-
--- a test on every number below k
-abbrev pub each : ℕ → (ℕ → Bool) → Bool
-each zero p = true
-each (suc k) p = p k && each k p
-
-pub each-at : (k : ℕ) (p : ℕ → Bool) → each k p ≡ true → (i : ℕ) → i < k → p i ≡ true
-each-at zero p e i h = absurd (omega arith)
-each-at (suc k) p e i h = go (λ h′. each-at k p (and-parts (p k) (each k p) e .1) i h′) (elim (decLt i k) [ yes l ↦ inr l | no l ↦ inl (omega arith) ])
-  where
-    go : (i < k → p i ≡ true) → (i ≡ k) ⊎ (i < k) → p i ≡ true
-    go less (inl q) = ap p q ∙ and-parts (p k) (each k p) e .0
-    go less (inr l) = less l
 
 -- two bits are alike
 abbrev pub alike : Bool → Bool → Bool

@@ -16,8 +16,9 @@ use Rattle.std.proofs.shelf.Bits.{shr-below}
 use Rattle.std.specs.declared.result.Result.the-variants.{Ok}
 use Rattle.engine.specs.Ops.{Bits, Agree, Op, Regs, put, held, within, after, bit-at, spelt}
 use Rattle.engine.specs.Does.{Does, View, Tests, answer}
+use Rattle.engine.proofs.Tables.{each}
 use Rattle.word.specs.Words.{bit, means, whole, word-regs, word-view, written, blank, roomy, table, spell, word-at}
-use Rattle.word.proofs.Bits.{apart, bit-and, bit-xor, mux, shr-bit, shl-bit, low-bit, zero-bit, ones-bit, same-number, number-none, number-mod, each, alike, columns}
+use Rattle.word.proofs.Bits.{apart, bit-and, bit-xor, mux, shr-bit, shl-bit, low-bit, zero-bit, ones-bit, same-number, number-none, number-mod, alike, columns}
 use Rattle.word.proofs.Spelling.{same-spelt, spelt-below, below-64, spelt-bit, spelt-held, spelt-spell, spelt-byte}
 
 -- only variables 1 to n matter

@@ -1,8 +1,6 @@
-use mathlib.Core.Path.{_≡_, sym}
-use Prim.Native.Nat.{_-_, _/_, _≤_}
-use native.Mathlib.Omega.{arith}
+use mathlib.Core.Path.{sym}
+use Prim.Native.Nat.{_-_}
 use borrow.Author.Needs.{needs}
-use lib.ListN.{length}
 use Rattle.engine.proofs.Assignments.{bit-past}
 use Rattle.engine.proofs.assignment.bit.Needs as need
 

@@ -1,6 +1,4 @@
 use Rattle.std.proofs.shelf.Results.{err-from-errBy}
-use mathlib.Core.List.{List}
-use Rattle.engine.specs.Ops.{Op}
 use Rattle.engine.proofs.Rows.{next, stop}
 use Rattle.search.specs.Steps.{latter-steps, join-steps}
 use Rattle.search.proofs.least.differ.Needs as need

@@ -1,11 +1,9 @@
-use mathlib.Core.Path.{_≡_, refl, sym, _∙_, ap}
+use mathlib.Core.Path.{_≡_, refl}
 use native.Mathlib.Omega.{arith}
 use native.Mathlib.Numerals.{add-one}
-use Prim.Native.Nat.{_≤_, _<_, _+_}
-use borrow.Author.Needs.{needs}
+use Prim.Native.Nat.{_+_}
 use Rattle.std.proofs.shelf.Results.{err-from-errBy}
 use Rattle.engine.specs.Ops.{bit-at}
-use Rattle.search.specs.Seeks.{Trail, Hunts}
 use Rattle.search.proofs.Picks.{trail-more, zero-bits}
 use Rattle.search.proofs.least.hunt.Needs as need
 

@@ -1,8 +1,6 @@
-use mathlib.Core.Path.{_≡_, refl, sym, _∙_}
-use mathlib.Core.Logic.{_⊎_, inl, inr}
-use native.Mathlib.Omega.{arith}
+use mathlib.Core.Logic.{inl, inr}
 use Rattle.std.proofs.shelf.Results.{err-from-errBy}
-use Rattle.engine.proofs.Rows.{row, next, stop, retell}
+use Rattle.engine.proofs.Rows.{retell}
 use Rattle.search.proofs.Picks.{clear-made}
 use Rattle.search.proofs.least.seek.Needs as need
 

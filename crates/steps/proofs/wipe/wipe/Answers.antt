@@ -1,4 +1,3 @@
-use native.Mathlib.Omega.{arith}
 use Rattle.steps.proofs.Wiping.{wipe-none, wipe-more, wipe-row, wipe-regs}
 use Rattle.steps.proofs.wipe.wipe.Needs as need
 

@@ -1,4 +1,4 @@
-use mathlib.Core.Path.{refl, sym, ap}
+use mathlib.Core.Path.{sym, ap}
 use mathlib.Core.Bool.{Bool, cond}
 use borrow.Author.Needs.{needs}
 use Rattle.kind.specs.declared.rule.Action.the-variants.{Block, Pass}
