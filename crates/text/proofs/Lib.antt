@@ -1,2 +1,5 @@
 pub mod Parts
 pub mod Decoding
+pub mod Numbers
+pub mod Spelled
+pub mod Clears

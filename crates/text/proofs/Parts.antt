@@ -23,11 +23,11 @@ pub before-end : (c : ℕ) (xs : List ℕ) (i : ℕ) → length xs ≤ i → bef
 before-end c xs i h = at-drop-all (before c) xs i h
 
 -- the parts behind the first n bytes and one more
-abbrev behind : ℕ → ℕ → ℕ → List ℕ → List Part
+abbrev pub behind : ℕ → ℕ → ℕ → List ℕ → List Part
 behind c p n xs = cond (ltb n (length xs)) (split c (suc (p + n)) (drop (suc n) xs)) []
 
 -- a split text is the bytes before the first c, and the parts behind it
-split-is : (c p : ℕ) (xs : List ℕ) → split c p xs ≡ record { place = p; text = take (before c xs) xs } ∷ behind c p (before c xs) xs
+pub split-is : (c p : ℕ) (xs : List ℕ) → split c p xs ≡ record { place = p; text = take (before c xs) xs } ∷ behind c p (before c xs) xs
 split-is c p [] = refl
 split-is c p (x ∷ xs) = elim (eqb x c) as (λ b. cond b (record { place = p; text = [] } ∷ split c (p + 1) xs) (grow p x (split c (p + 1) xs)) ≡ record { place = p; text = take (cond b 0 (suc (before c xs))) (x ∷ xs) } ∷ behind c p (cond b 0 (suc (before c xs))) (x ∷ xs)) [
   | true ↦ let e : p + 1 ≡ suc (p + 0) = omega arith in rw (leb·suc-suc, leb·zero, e) refl

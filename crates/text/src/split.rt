@@ -1,7 +1,7 @@
 ghost use mathlib.Core.Path.{_≡_};
 ghost use mathlib.Core.List.{[], _∷_};
 ghost use Prim.Native.Nat.{_≤_};
-ghost use lib.ListN.{length};
+ghost use lib.ListN.{length, drop};
 ghost use Rattle.std.specs.Options.{Cases as BySome};
 ghost use Rattle.text.specs.Split.{before, split, left, part};
 use crate::fields::Field;
@@ -20,14 +20,32 @@ pub fn before_byte(text: &[u8], c: u8) -> usize
     text.len()
 }
 
+// The text from `start` on; nothing where it ends before.
+fn after(text: &[u8], start: usize) -> &[u8]
+    ensures { λ r. ⌜ now r ≡ drop start (now (text .entry)) ⌝ }
+{
+    if start < text.len() {
+        &text[start..]
+    } else {
+        &text[text.len()..]
+    }
+}
+
 impl<'a> Reader<'a> {
     // A reader of the fields of a line that is split at `sep`.
     pub fn new(line: &'a [u8], sep: u8) -> Reader<'a>
         ensures { λ r. ⌜ left r ≡ split sep 0 (now (line .entry)) ⌝ }
     {
+        Reader::starting(line, 0, sep)
+    }
+
+    // A reader of the fields of a text from `start` on, with their places in the whole text.
+    pub fn starting(text: &'a [u8], start: usize, sep: u8) -> Reader<'a>
+        ensures { λ r. ⌜ left r ≡ split sep start (drop start (now (text .entry))) ⌝ }
+    {
         Reader {
-            text: line,
-            base: 0,
+            text: after(text, start),
+            base: start,
             sep,
             at: 0,
             done: false,
