@@ -1,4 +1,7 @@
 //! Addresses and ports as the bits of a frame.
+
+#![tactic(auto)]
+
 ghost use Rattle.std.specs.Prelude.{◌≡◌};
 ghost use Rattle.bits.specs.Frames.{frame_bytes, first_bits_of, value_bytes, care_bytes};
 

@@ -1,4 +1,7 @@
 //! What an engine is: sixteen registers that hold Boolean functions, and the calls on them.
+
+#![tactic(auto)]
+
 pub mod assignment;
 pub mod calls;
 pub mod fault;

@@ -1,4 +1,7 @@
 //! The filter: a live book that judges frames, and a draft that is edited.
+
+#![tactic(auto)]
+
 pub mod answer;
 pub mod book;
 pub mod fault;

@@ -1,3 +1,5 @@
+#![tactic(auto)]
+
 mod session;
 mod show;
 

@@ -1,3 +1,6 @@
 //! The commands of a script, a line each.
+
+#![tactic(auto)]
+
 pub mod command;
 pub mod decimal;

@@ -1,4 +1,7 @@
 //! The engine calls that each call of a filter makes, in their order.
+
+#![tactic(auto)]
+
 pub mod add;
 pub mod rebuild;
 pub mod scratch;

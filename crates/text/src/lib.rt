@@ -1,4 +1,7 @@
 //! Rule lines as text: fields with their places, and numbers.
+
+#![tactic(auto)]
+
 pub mod fault;
 pub mod fields;
 pub mod hex;
