@@ -2,8 +2,8 @@ use Rattle.std.proofs.Common.{◌-◌, ◌^◌, ◌≤◌, arith, pow_mono}
 use Rattle.std.proofs.lemmas.Nat.{one_shl, pow_pos}
 use Rattle.bits.proofs.first_bits.Goals as goal
 
-pub overflow-sub-result-2 : goal.overflow-sub-result-2
-overflow-sub-result-2 c = omega (arith, one_shl (128 - c.args.length) 128 (omega arith), pow_pos (128 - c.args.length))
+pub overflow_sub-result-2 : goal.overflow_sub-result-2
+overflow_sub-result-2 c = omega (arith, one_shl (128 - c.args.length) 128 (omega arith), pow_pos (128 - c.args.length))
 
 pub returns : goal.returns
 returns c =

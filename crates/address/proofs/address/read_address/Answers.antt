@@ -7,7 +7,7 @@ use Rattle.address.proofs.address.read_address.Goals as goal
 
 pub returns-then-gap-text : goal.returns-then-gap-text
 returns-then-gap-text c =
-    let e = c.read-gapped.ensures ∙ ap numbered (gap_address _ c.args.text.now c.before-gap-gap.ensures.is c.if-gap-text.true) in
+    let e = c.read_gapped.ensures ∙ ap numbered (gap_address _ c.args.text.now c.before_gap-gap.ensures.is c.if-gap-text.true) in
     record { value = e; grammar = accepts_spelling c.args.text.now _ e; refusal = refuses_address c.args.text.now _ e }
 
 pub returns-else-gap-text : goal.returns-else-gap-text

@@ -5,12 +5,12 @@ use Rattle.ipv6.proofs.Refusing.{refuses_rule}
 use Rattle.ipv6.proofs.Meaning.{rule_meant}
 use Rattle.ipv6.proofs.line.read_line.Goals as goal
 
-pub returns-in-err-said : goal.returns-in-err-said
-returns-in-err-said c =
-    let e : c.from-residual.result ≡ ipv6_rule c.args.line.now = search rules in
+pub returns-in_err-said : goal.returns-in_err-said
+returns-in_err-said c =
+    let e : c.from_residual.result ≡ ipv6_rule c.args.line.now = search rules in
     record { value = e; grammar = accepts_rule c.args.line.now _ e; refusal = refuses_rule c.args.line.now _ e; meaning = rule_meant c.args.line.now _ e }
 
 pub returns : goal.returns
 returns c =
-    let e : Ok c.rule.result ≡ ipv6_rule c.args.line.now = ap Ok c.rule.ensures ∙ ap ruled c.in-ok-said.ensures in
+    let e : Ok c.rule.result ≡ ipv6_rule c.args.line.now = ap Ok c.rule.ensures ∙ ap ruled c.in_ok-said.ensures in
     record { value = e; grammar = accepts_rule c.args.line.now _ e; refusal = refuses_rule c.args.line.now _ e; meaning = rule_meant c.args.line.now _ e }

@@ -6,9 +6,9 @@ use Rattle.run.proofs.run.run_both.Goals as goal
 
 pub returns : goal.returns
 returns g c =
-    let one = c.in-ok-first.ensures.law in
-    let two = c.in-ok-second.ensures.law in (
+    let one = c.in_ok-first.ensures.law in
+    let two = c.in_ok-second.ensures.law in (
       one,
       two,
-      λ e f. together g.K.Kind.reading g.met.K.Kind.lawful _ no_rules c.args.calls.now _ _ one (subst (λ (n : ℕ). Holds g.K.Kind.reading n no_rules c.args.calls.now (vec_items c.in-ok-second.second)) (f ∙ sym e) two),
+      λ e f. together g.K.Kind.reading g.met.K.Kind.lawful _ no_rules c.args.calls.now _ _ one (subst (λ (n : ℕ). Holds g.K.Kind.reading n no_rules c.args.calls.now (vec_items c.in_ok-second.second)) (f ∙ sym e) two),
     )

@@ -10,4 +10,4 @@ two_parts line w rest l p q = rw (lt-ltb (before 32 line) (length line) l, p, q)
 pub returns-in-Some : goal.returns-in-Some
 returns-in-Some c =
     let h = c.in-Some.ensures in
-    c.read-rest.ensures ∙ two_parts c.args.line.now _ _ h.0 h.1 h.2
+    c.read_rest.ensures ∙ two_parts c.args.line.now _ _ h.0 h.1 h.2

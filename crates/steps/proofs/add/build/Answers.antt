@@ -12,16 +12,16 @@ loop-v-preserved g c = (
   λ rest.
       c.loop-v.invariant.1 rest
       ∙ ap (ran g.E.Engine.rooms (g.E.Engine.view c.loop-v.e)) (bits_down c.args.w c.args.rule.now c.loop-v.v rest (omega arith))
-      ∙ c.in-ok-meet-bit.ensures.goes (bits_steps c.args.w c.args.rule.now (c.loop-v.v - 1) rest),
+      ∙ c.in_ok-meet_bit.ensures.goes (bits_steps c.args.w c.args.rule.now (c.loop-v.v - 1) rest),
 )
 
-pub returns-in-err-meet-bit : goal.returns-in-err-meet-bit
-returns-in-err-meet-bit g c =
-    let p = err_from_is_err_and c.from-residual-in-err-meet-bit.result c.from-residual-in-err-meet-bit.ensures.1 in
+pub returns-in_err-meet_bit : goal.returns-in_err-meet_bit
+returns-in_err-meet_bit g c =
+    let p = err_from_is_err_and c.from_residual-in_err-meet_bit.result c.from_residual-in_err-meet_bit.ensures.1 in
     rw (p.1, p.2) record {
       goes = λ rest.
-          (row c.in-ok-negate.ensures).goes (bits_steps c.args.w c.args.rule.now c.args.n rest)
+          (row c.in_ok-negate.ensures).goes (bits_steps c.args.w c.args.rule.now c.args.n rest)
           ∙ c.loop-v.invariant.1 rest
           ∙ ap (ran g.E.Engine.rooms (g.E.Engine.view c.loop-v.e)) (bits_down c.args.w c.args.rule.now c.loop-v.v rest (omega arith))
-          ∙ c.in-err-meet-bit.ensures.goes (bits_steps c.args.w c.args.rule.now (c.loop-v.v - 1) rest);
+          ∙ c.in_err-meet_bit.ensures.goes (bits_steps c.args.w c.args.rule.now (c.loop-v.v - 1) rest);
     }

@@ -5,26 +5,26 @@ use Rattle.steps.specs.Steps.{join_steps}
 use Rattle.steps.proofs.Rows.{keep_block, keep_pass}
 use Rattle.steps.proofs.add.keep.Goals as goal
 
-pub returns-in-err-join : goal.returns-in-err-join
-returns-in-err-join g c =
-    let p = err_from_is_err_and c.from-residual.result c.from-residual.ensures.1 in
+pub returns-in_err-join : goal.returns-in_err-join
+returns-in_err-join g c =
+    let p = err_from_is_err_and c.from_residual.result c.from_residual.ensures.1 in
     rw (p.1, p.2)
-    (keep_block c.args.w c.args.m c.args.b c.args.rule.now (sym c.is-block.ensures ∙ c.if-is-block.true)
-    (stop c.in-err-join.ensures (join_steps c.args.w c.args.w.blocked c.args.b c.args.w.fresh)))
+    (keep_block c.args.w c.args.m c.args.b c.args.rule.now (sym c.is_block.ensures ∙ c.if-is_block.true)
+    (stop c.in_err-join.ensures (join_steps c.args.w c.args.w.blocked c.args.b c.args.w.fresh)))
 
-pub returns-in-ok-join : goal.returns-in-ok-join
-returns-in-ok-join g c =
-    keep_block c.args.w c.args.m c.args.b c.args.rule.now (sym c.is-block.ensures ∙ c.if-is-block.true)
-    (next c.in-ok-join.ensures c.join-then-is-block.ensures)
+pub returns-in_ok-join : goal.returns-in_ok-join
+returns-in_ok-join g c =
+    keep_block c.args.w c.args.m c.args.b c.args.rule.now (sym c.is_block.ensures ∙ c.if-is_block.true)
+    (next c.in_ok-join.ensures c.join-then-is_block.ensures)
 
-pub returns-in-err-clear : goal.returns-in-err-clear
-returns-in-err-clear g c =
-    let p = err_from_is_err_and c.from-residual-in-err-clear.result c.from-residual-in-err-clear.ensures.1 in
+pub returns-in_err-clear : goal.returns-in_err-clear
+returns-in_err-clear g c =
+    let p = err_from_is_err_and c.from_residual-in_err-clear.result c.from_residual-in_err-clear.ensures.1 in
     rw (p.1, p.2)
-    (keep_pass c.args.w c.args.m c.args.b c.args.rule.now (sym c.is-block.ensures ∙ c.if-is-block.false)
-    (stop (row c.in-err-clear.ensures) (join_steps c.args.w c.args.w.matched c.args.m c.args.w.rule)))
+    (keep_pass c.args.w c.args.m c.args.b c.args.rule.now (sym c.is_block.ensures ∙ c.if-is_block.false)
+    (stop (row c.in_err-clear.ensures) (join_steps c.args.w c.args.w.matched c.args.m c.args.w.rule)))
 
-pub returns-in-ok-clear : goal.returns-in-ok-clear
-returns-in-ok-clear g c =
-    keep_pass c.args.w c.args.m c.args.b c.args.rule.now (sym c.is-block.ensures ∙ c.if-is-block.false)
-    (next (row c.in-ok-clear.ensures) c.join-else-is-block.ensures)
+pub returns-in_ok-clear : goal.returns-in_ok-clear
+returns-in_ok-clear g c =
+    keep_pass c.args.w c.args.m c.args.b c.args.rule.now (sym c.is_block.ensures ∙ c.if-is_block.false)
+    (next (row c.in_ok-clear.ensures) c.join-else-is_block.ensures)

@@ -9,14 +9,14 @@ digit c = hex_lt (get_or c.args.text.now c.loop-b.b-index 0) _ c.in-Some.ensures
 fits : (c : goal.In-Some) → c.loop-b.value * 16 + c.in-Some.d < 16 ^ 4
 fits c = power_below 16 _ _ _ 4 (omega arith) c.loop-b.invariant.1 (digit c) (omega (arith, c.requires))
 
-pub returns-in-default : goal.returns-in-default
-returns-in-default c = number_stop hex_digit 16 _ _ _ c.loop-b-test.true c.in-default.ensures ∙ c.loop-b.invariant.0
+pub returns-in_default : goal.returns-in_default
+returns-in_default c = number_stop hex_digit 16 _ _ _ c.loop-b-test.true c.in_default.ensures ∙ c.loop-b.invariant.0
 
-pub overflow-mul-value : goal.overflow-mul-value
-overflow-mul-value c = omega (arith, fits c)
+pub overflow_mul-value : goal.overflow_mul-value
+overflow_mul-value c = omega (arith, fits c)
 
-pub overflow-add-value : goal.overflow-add-value
-overflow-add-value c = omega (arith, fits c)
+pub overflow_add-value : goal.overflow_add-value
+overflow_add-value c = omega (arith, fits c)
 
 pub loop-b-preserved : goal.loop-b-preserved
 loop-b-preserved c = (

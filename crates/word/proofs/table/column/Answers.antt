@@ -17,5 +17,5 @@ returns-in-3 c = means_variable c.args.n c.args.v 0xff00_ff00_ff00_ff00 3 (omega
 pub returns-in-4 : goal.returns-in-4
 returns-in-4 c = means_variable c.args.n c.args.v 0xffff_0000_ffff_0000 4 (omega arith) (omega arith) (omega arith) (omega arith) refl
 
-pub returns-in-default : goal.returns-in-default
-returns-in-default c = means_variable c.args.n c.args.v 0xffff_ffff_0000_0000 5 (omega arith) (omega arith) (omega arith) (omega arith) refl
+pub returns-in_default : goal.returns-in_default
+returns-in_default c = means_variable c.args.n c.args.v 0xffff_ffff_0000_0000 5 (omega arith) (omega arith) (omega arith) (omega arith) refl

@@ -6,11 +6,11 @@ use Rattle.address.proofs.groups.Groups.push.Goals.{Then-self-lt-GROUPS}
 fits : (c : Then-self-lt-GROUPS) → c.args.self.now.value * 65536 + c.args.v < 65536 ^ 8
 fits c = power_below 65536 _ _ _ 8 (omega arith) c.args.self.now.fits (omega arith) c.if-self-lt-GROUPS.true
 
-pub overflow-mul-self : goal.overflow-mul-self
-overflow-mul-self c = omega (arith, fits c)
+pub overflow_mul-self : goal.overflow_mul-self
+overflow_mul-self c = omega (arith, fits c)
 
-pub overflow-add-self : goal.overflow-add-self
-overflow-add-self c = omega (arith, fits c)
+pub overflow_add-self : goal.overflow_add-self
+overflow_add-self c = omega (arith, fits c)
 
-pub invariant-of-self : goal.invariant-of-self
-invariant-of-self c = (omega arith, (power_more 65536 _ _ _ c.args.self.now.fits (omega arith), tt))
+pub invariant_of-self : goal.invariant_of-self
+invariant_of-self c = (omega arith, (power_more 65536 _ _ _ c.args.self.now.fits (omega arith), tt))

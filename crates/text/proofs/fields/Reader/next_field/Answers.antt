@@ -7,6 +7,6 @@ use Rattle.text.proofs.fields.Reader.next_field.Goals.{then-n-rest, else-n-rest}
 pub returns : goal.returns
 returns c =
     elim c.if-n-rest.branch [
-      | then-n-rest w ↦ tail_to (part_on _ _ c.args.self.now.text.now _ _ _ c.if-self.false c.before-byte-n.ensures.is _ (omega arith) w.if-n-rest.true) (ap left w.self-is)
-      | else-n-rest w ↦ tail_to (part_last _ _ c.args.self.now.text.now _ _ _ c.if-self.false c.before-byte-n.ensures.is w.if-n-rest.false) (ap left w.self-is)
+      | then-n-rest w ↦ tail_to (part_on _ _ c.args.self.now.text.now _ _ _ c.if-self.false c.before_byte-n.ensures.is _ (omega arith) w.if-n-rest.true) (ap left w.self-is)
+      | else-n-rest w ↦ tail_to (part_last _ _ c.args.self.now.text.now _ _ _ c.if-self.false c.before_byte-n.ensures.is w.if-n-rest.false) (ap left w.self-is)
     ]

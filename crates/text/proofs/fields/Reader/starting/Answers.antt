@@ -2,8 +2,8 @@ use Rattle.std.proofs.Common.{◌≡◌, ◌-◌, ◌^◌, ◌<◌, length, ap, 
 use Rattle.std.proofs.lemmas.List.{length-drop}
 use Rattle.text.proofs.fields.Reader.starting.Goals as goal
 
-pub invariant-of-result : goal.invariant-of-result
-invariant-of-result c =
+pub invariant_of-result : goal.invariant_of-result
+invariant_of-result c =
     let n : length c.after.result.now ≡ length c.args.text.now - c.args.start = ap length c.after.ensures ∙ length-drop c.args.start c.args.text.now in
     let l : length c.args.text.now < 2 ^ 64 = search rules in
     (omega arith, (omega arith, tt))
