@@ -13,4 +13,4 @@ pub overflow_add-self : goal.overflow_add-self
 overflow_add-self c = omega (arith, fits c)
 
 pub invariant_of-self : goal.invariant_of-self
-invariant_of-self c = (omega arith, (power_more 65536 _ _ _ c.args.self.now.fits (omega arith), tt))
+invariant_of-self c = record { few = omega arith; fits = power_more 65536 _ _ _ c.args.self.now.fits (omega arith) }
