@@ -2,5 +2,5 @@
 
 #![tactic(auto)]
 
-pub mod kind;
+pub mod flat_kind;
 pub mod pick;

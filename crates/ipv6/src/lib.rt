@@ -2,6 +2,6 @@
 
 #![tactic(auto)]
 
-pub mod kind;
+pub mod ipv6_kind;
 pub mod line;
 pub mod said;

@@ -1,6 +1,6 @@
 use crate::show::{show, show_rule};
 use filter::filter::Filter;
-use flat::kind::FlatKind;
+use flat::flat_kind::FlatKind;
 use kind::kind::Kind;
 use run::call::Call;
 use run::perform::perform;

@@ -1,5 +1,5 @@
 use filter::answer::Answer;
-use flat::kind::FlatKind;
+use flat::flat_kind::FlatKind;
 use run::call::Call;
 use run::run::{run, run_both};
 use std::alloc::{AllocError, Global};

@@ -1,6 +1,6 @@
 use Rattle.std.proofs.Common.{refl, ◌∙◌, arith, length-set, rules}
 use Rattle.ipv6.specs.Laws.{copied_more, small_more, filled}
-use Rattle.ipv6.proofs.kind.Ipv6KindKind.back.Goals as goal
+use Rattle.ipv6.proofs.ipv6_kind.Ipv6KindKind.back.Goals as goal
 
 pub loop-i-init : goal.loop-i-init
 loop-i-init c = (search rules, refl, λ j h. absurd (omega arith))
