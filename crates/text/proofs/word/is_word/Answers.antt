@@ -1,7 +1,6 @@
 use Rattle.std.proofs.Common.{rules}
-use Rattle.std.specs.Str.{bytes_eq}
+use Rattle.text.proofs.SameWord.{same_word}
 use Rattle.text.proofs.word.is_word.Goals as goal
 
 pub returns : goal.returns
-unfolding bytes_eq
-returns c = search rules
+returns c = search (rules, same_word)
