@@ -68,7 +68,7 @@ mod tests {
     fn either_case_is_read(rt: HostRuntime) -> Result<(), Fail> {
         match decode(rt.alloc(), b"0aFf")? {
             Some(bytes) => {
-                assert_eq!(rt; bytes.as_slice(), &[10, 255]);
+                assert_eq!(rt; bytes.as_slice(), [10, 255].as_slice());
                 Ok(())
             },
             None => Err(Fail::new("refused")),

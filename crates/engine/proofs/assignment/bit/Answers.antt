@@ -1,4 +1,4 @@
-use Rattle.std.proofs.Common.{◌-◌, sym, rules}
+use Rattle.std.proofs.Common.{sym, rules}
 use Rattle.engine.proofs.Assignments.{bit_past}
 use Rattle.engine.proofs.assignment.bit.Goals as goal
 
