@@ -1,5 +1,5 @@
 -- The engine calls of each call of a filter, each part put before any others. w names the scratch registers.
-use Rattle.std.specs.Prelude.{ℕ, zero, suc, ◌+◌, true, false, cond, List, [], ◌∷◌}
+use Rattle.std.specs.Prelude.{ℕ, zero, suc, ◌+◌, cond, List, [], ◌∷◌}
 use Rattle.engine.specs.Ops.{Op, bit_at}
 use Rattle.kind.specs.declared.rule.Rule.{Rule}
 use Rattle.kind.specs.Rules.{blocks}
