@@ -1,4 +1,4 @@
-use Rattle.std.proofs.Common.{◌-◌, refl, ◌∙◌, arith}
+use Rattle.std.proofs.Common.{refl, ◌∙◌, arith}
 use Rattle.filter.proofs.Redoing.{removed_more, removed_all}
 use Rattle.filter.proofs.book.Book.remove.Goals as goal
 
