@@ -5,7 +5,6 @@ use Rattle.engine.specs.Ops.{Bits, Agree, bit_at, spelt}
 use Rattle.engine.specs.Does.{Says}
 use Rattle.kind.specs.declared.rule.Rule.{Rule}
 use Rattle.kind.specs.Kinds.{Reading, Lawful}
-use Rattle.kind.specs.Rules.{judged}
 use Rattle.steps.specs.Meaning.{Decides as DecidesBy}
 use Rattle.search.specs.Least.{Below}
 use Rattle.search.proofs.Seeking.{judged_local}
