@@ -1,6 +1,6 @@
 ghost use Rattle.word.specs.Words.{roomy, word_view};
 ghost use Rattle.word.specs.Meaning.{same_regs};
-ghost use Rattle.std.proofs.Common.{rules, arith};
+ghost use Rattle.std.proofs.Common.{rules};
 
 use super::{LAST, WordEngine};
 use crate::table::{column, full};
@@ -14,13 +14,13 @@ impl Engine for WordEngine {
 
     ghost view = { λ e. word_view e.n e.words };
 
-    ghost some = { first_of (Prim.search rules, Prim.grind (arith, Self.row.coded.inj)) };
+    ghost some = { Prim.search rules };
 
-    ghost few = { first_of (Prim.search rules, Prim.grind (arith, Self.row.coded.inj)) };
+    ghost few = { Prim.search rules };
 
     ghost local = { λ e r s t h. same_regs e.n e.words r s t h };
 
-    ghost sixteen = { first_of (Prim.search rules, Prim.grind (arith, Self.row.coded.inj)) };
+    ghost sixteen = { Prim.search rules };
 
     fn variables(&self) -> u8 {
         self.n
