@@ -1,13 +1,15 @@
 -- The fields for from and to of a flat rule line.
-use Rattle.std.specs.Prelude.{ℕ, ◌-◌, cond, ◌&&◌, List, [], ◌∷◌, Ok, Err, Result, ◌==◌, nat_le}
+use Rattle.std.specs.Prelude.{ℕ, ◌-◌, cond, ◌&&◌, List, [], ◌∷◌, Some, None, Ok, Err, Option, Result, ◌==◌, nat_le}
 use Rattle.kind.specs.declared.fault.FlatFault.{FlatFault}
 use Rattle.kind.specs.declared.fault.FlatFault.TheVariants as fault
-use Rattle.flat.specs.declared.pick.Pick.{Pick}
-use Rattle.flat.specs.declared.pick.Pick.TheVariants.{Any, Digit}
+
+-- a number 0 to 7, or none where any will do
+abbrev pub Pick : Type 0
+Pick = Option ℕ
 
 -- what a byte says: `*` any number, a digit 0 to 7 that number
 abbrev pub pick_byte : ℕ → ℕ → Result Pick FlatFault
-pick_byte c place = cond (c == 42) (Ok Any) (cond (nat_le 48 c && nat_le c 55) (Ok (Digit (c - 48))) (Err (fault.Digit place)))
+pick_byte c place = cond (c == 42) (Ok None) (cond (nat_le 48 c && nat_le c 55) (Ok (Some (c - 48))) (Err (fault.Digit place)))
 
 -- what a field's text says; text that is not one such byte is refused at the field's place
 abbrev pub pick_of : List ℕ → ℕ → Result Pick FlatFault
@@ -17,10 +19,10 @@ pick_of (c ∷ d ∷ cs) place = Err (fault.Digit place)
 
 -- the number that is picked; 0 where any will do
 abbrev pub picked : Pick → ℕ
-picked Any = 0
-picked (Digit d) = d
+picked None = 0
+picked (Some d) = d
 
 -- which of the three bits count
 abbrev pub counted : Pick → ℕ
-counted Any = 0
-counted (Digit d) = 7
+counted None = 0
+counted (Some d) = 7

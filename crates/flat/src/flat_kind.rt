@@ -1,6 +1,5 @@
 ghost use Rattle.std.specs.Prelude.{◌≡◌, ◌≤◌};
 ghost use Rattle.text.specs.Lines.{parts};
-ghost use Rattle.flat.specs.Picks.{picked};
 ghost use Rattle.flat.specs.Lines.{rule_of, fields_rule};
 ghost use Rattle.flat.specs.Frames.{first};
 ghost use Rattle.flat.specs.Reading.{flat};
@@ -40,7 +39,6 @@ fn first_byte(b: u8) -> Assignment
 
 // The rule for the frames of these picks.
 fn rule(action: Action, from: Pick, to: Pick) -> Rule
-    requires { (picked from ≤ 7) × (picked to ≤ 7) }
     ensures { result ≡ rule_of action from to }
 {
     let value = first_byte(from.value() * 32 + to.value() * 4);
@@ -56,9 +54,7 @@ fn rule(action: Action, from: Pick, to: Pick) -> Rule
 fn read_rule(fields: Fields<'_>, end: usize) -> Result<Rule, RuleFault>
     ensures { result ≡ fields_rule end (parts fields.entry) }
 {
-    let Some(third) = fields.third else {
-        return Err(RuleFault::Line(LineFault::Fields(end)));
-    };
+    let third = fields.third.ok_or(LineFault::Fields(end))?;
     let action = Action::read(fields.action)?;
     let from = Pick::read(fields.second)?;
     let to = Pick::read(third)?;
@@ -86,13 +82,10 @@ impl Kind for FlatKind {
     }
 
     fn turn(&self, frame: &[u8]) -> Result<Assignment, FrameFault> {
-        let [b] = frame else {
-            return Err(FrameFault::Wrong);
-        };
-        if *b >= FRAMES {
-            return Err(FrameFault::Wrong);
+        match frame {
+            [b] if *b < FRAMES => Ok(first_byte(*b * 4)),
+            _ => Err(FrameFault::Wrong),
         }
-        Ok(first_byte(*b * 4))
     }
 
     fn back(&self, bits: &Assignment, place: &mut Assignment) {
@@ -101,11 +94,9 @@ impl Kind for FlatKind {
 }
 
 // Rule lines that are read, and rule lines that are refused.
-pub fn examples_stand() -> u8
+pub fn examples_stand()
     ensures { Examples }
-{
-    0
-}
+{}
 
 #[cfg(test)]
 mod tests {
@@ -113,27 +104,21 @@ mod tests {
     use std::test::Fail;
 
     #[test]
-    fn any_counts_no_bits(rt: HostRuntime) -> Result<(), Fail> {
-        match FlatKind.read(b"block 3 *") {
-            Ok(rule) => {
-                assert_eq!(rt; rule.value[0], 0x60);
-                assert_eq!(rt; rule.care[0], 0xe0);
-                Ok(())
-            }
-            Err(_) => Err(Fail::new("refused")),
-        }
+    fn any_counts_no_bits(rt: HostRuntime) {
+        let read = FlatKind.read(b"block 3 *");
+        assert_eq!(rt;
+            read.map(|rule| (rule.value[0], rule.care[0])),
+            Ok((0x60, 0xe0))
+        );
     }
 
     #[test]
-    fn a_fault_has_its_place(rt: HostRuntime) -> Result<(), Fail> {
-        match FlatKind.read(b"pass 9 1") {
-            Ok(_) => Err(Fail::new("read")),
-            Err(fault) => {
-                assert_eq!(rt; fault.number(), 9);
-                assert_eq!(rt; fault.place(), 5);
-                Ok(())
-            }
-        }
+    fn a_fault_has_its_place(rt: HostRuntime) {
+        let read = FlatKind.read(b"pass 9 1");
+        assert_eq!(rt;
+            read.map_err(|fault| (fault.number(), fault.place())),
+            Err((9, 5))
+        );
     }
 
     #[test]

@@ -6,21 +6,21 @@ use address::fault::AddressFault;
 use text::fault::LineFault;
 
 // What is wrong with a port.
-#[derive(Clone, Copy)]
+#[derive(Clone, Copy, Debug, PartialEq, Eq)]
 pub enum PortFault {
     // not a number 0 to 65535
     Number(usize),
 }
 
 // What is wrong with a flat.
-#[derive(Clone, Copy)]
+#[derive(Clone, Copy, Debug, PartialEq, Eq)]
 pub enum FlatFault {
     // neither a digit 0 to 7 nor `*`
     Digit(usize),
 }
 
 // Why a line is no rule; a fault passes up whole.
-#[derive(Clone, Copy)]
+#[derive(Clone, Copy, Debug, PartialEq, Eq)]
 pub enum RuleFault {
     Line(LineFault),
     Address(AddressFault),
@@ -29,7 +29,7 @@ pub enum RuleFault {
 }
 
 // Bytes that are no frame, or text that is no hexadecimal.
-#[derive(Clone, Copy)]
+#[derive(Clone, Copy, Debug, PartialEq, Eq)]
 pub enum FrameFault {
     Wrong,
 }

@@ -1,27 +1,21 @@
-ghost use Rattle.std.specs.Prelude.{◌≡◌};
+ghost use Rattle.std.specs.Prelude.{◌≡◌, Some};
 ghost use Rattle.kind.specs.Actions.{action_of, action_word};
 ghost use Rattle.kind.specs.Rules.{blocks, Matching};
 
 use engine::assignment::Assignment;
+use std::fmt;
 use text::fault::LineFault;
 use text::fields::Field;
-use text::word::is_word;
-
-// The word for a rule that blocks.
-pub const BLOCK: &[u8] = b"block";
-
-// The word for a rule that lets pass.
-pub const PASS: &[u8] = b"pass";
 
 // What a rule does with the frames that it decides.
-#[derive(Clone, Copy)]
+#[derive(Clone, Copy, Debug, PartialEq, Eq)]
 pub enum Action {
     Block,
     Pass,
 }
 
 // A rule: it matches the frames that agree with its value at every bit that counts.
-#[derive(Clone, Copy)]
+#[derive(Clone, Copy, Debug, PartialEq, Eq)]
 pub struct Rule {
     pub action: Action,
     pub value: Assignment,
@@ -34,38 +28,39 @@ impl Action {
     pub fn read(field: Field<'_>) -> Result<Action, LineFault>
         ensures { result ≡ action_of field.entry.text.now field.entry.place }
     {
-        if is_word(field.text, BLOCK) {
-            Ok(Action::Block)
-        } else if is_word(field.text, PASS) {
-            Ok(Action::Pass)
-        } else {
-            Err(LineFault::Action(field.place))
+        match field.text {
+            b"block" => Ok(Action::Block),
+            b"pass" => Ok(Action::Pass),
+            _ => Err(LineFault::Action(field.place)),
         }
     }
 
     // The word that says the action.
-    pub fn word(self) -> &'static [u8]
+    pub fn word(self) -> &'static str
         ensures { result.now ≡ action_word self }
     {
         match self {
-            Action::Block => BLOCK,
-            Action::Pass => PASS,
+            Action::Block => "block",
+            Action::Pass => "pass",
         }
     }
 
     pub fn is_block(self) -> bool
         ensures { result ≡ blocks self }
     {
-        match self {
-            Action::Block => true,
-            Action::Pass => false,
-        }
+        self == Action::Block
+    }
+}
+
+impl fmt::Display for Action {
+    ghost output = { λ a. Some (action_word a) };
+
+    fn fmt<W: fmt::Write>(&self, f: &mut fmt::Formatter<W>) -> fmt::Result {
+        f.write_str(self.word())
     }
 }
 
 // A rule matches a frame exactly when they agree at every bit that counts.
-pub fn matching_stands() -> u8
+pub fn matching_stands()
     ensures { Matching }
-{
-    0
-}
+{}
