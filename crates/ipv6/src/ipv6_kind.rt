@@ -38,18 +38,12 @@ impl Kind for Ipv6Kind {
     }
 
     fn turn(&self, frame: &[u8]) -> Result<Assignment, FrameFault> {
-        if frame.len() != BYTES {
-            return Err(FrameFault::Wrong);
-        }
-        let mut bits = [0; BYTES];
-        bits.copy_from_slice(frame);
-        Ok(bits)
+        Assignment::try_from(frame).map_err(|_| FrameFault::Wrong)
     }
 
     fn back(&self, bits: &Assignment, place: &mut Assignment) {
-        for (i, b) in bits.iter().enumerate() {
-            place[i] = *b;
-        }
+        let bytes = bits.as_slice();
+        place.copy_from_slice(bytes);
     }
 }
 
@@ -59,31 +53,22 @@ mod tests {
     use std::test::Fail;
 
     #[test]
-    fn a_prefix_and_a_port_are_read(rt: HostRuntime) -> Result<(), Fail> {
-        match Ipv6Kind.read(b"block 2001:DB8::/32 443") {
-            Ok(rule) => {
-                assert_eq!(rt; rule.value[3], 0xb8);
-                assert_eq!(rt; rule.value[16], 0x01);
-                assert_eq!(rt; rule.value[17], 0xbb);
-                assert_eq!(rt; rule.care[3], 0xff);
-                assert_eq!(rt; rule.care[4], 0);
-                assert_eq!(rt; rule.care[17], 0xff);
-                Ok(())
-            }
-            Err(_) => Err(Fail::new("refused")),
-        }
+    fn a_prefix_and_a_port_are_read(rt: HostRuntime) {
+        let read = Ipv6Kind.read(b"block 2001:DB8::/32 443");
+        let bytes = read.map(|rule| {
+            let (v, c) = (rule.value, rule.care);
+            [v[3], v[16], v[17], c[3], c[4], c[17]]
+        });
+        assert_eq!(rt; bytes, Ok([0xb8, 0x01, 0xbb, 0xff, 0, 0xff]));
     }
 
     #[test]
-    fn a_port_has_its_place(rt: HostRuntime) -> Result<(), Fail> {
-        match Ipv6Kind.read(b"pass ::1 65536") {
-            Ok(_) => Err(Fail::new("read")),
-            Err(fault) => {
-                assert_eq!(rt; fault.number(), 8);
-                assert_eq!(rt; fault.place(), 9);
-                Ok(())
-            }
-        }
+    fn a_port_has_its_place(rt: HostRuntime) {
+        let read = Ipv6Kind.read(b"pass ::1 65536");
+        assert_eq!(rt;
+            read.map_err(|fault| (fault.number(), fault.place())),
+            Err((8, 9))
+        );
     }
 
     #[test]

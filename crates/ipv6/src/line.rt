@@ -19,30 +19,19 @@ use text::fields::Field;
 use text::line::{Fields, read_fields};
 use text::numerals::read_decimal;
 
-// The greatest port.
-const PORT_MAX: u32 = 65535;
-
 // The port that a field says.
 fn read_port(field: Field<'_>) -> Result<u16, PortFault>
     ensures { result ≡ port_at (part field.entry) }
 {
-    match read_decimal(field.text) {
-        Some(n) if n <= PORT_MAX => Ok(n as u16),
-        _ => Err(PortFault::Number(field.place)),
-    }
+    let number = read_decimal(field.text).and_then(|n| u16::try_from(n).ok());
+    number.ok_or(PortFault::Number(field.place))
 }
 
 // The port of a line, if it has a field for one.
 fn read_third(field: Option<Field<'_>>) -> Result<Option<u16>, PortFault>
     ensures { result ≡ port_of (option_map part field.entry) }
 {
-    match field {
-        Some(field) => {
-            let port = read_port(field)?;
-            Ok(Some(port))
-        }
-        None => Ok(None),
-    }
+    field.map(read_port).transpose()
 }
 
 impl Said {
@@ -64,8 +53,7 @@ impl Said {
     fn read_line(line: &[u8]) -> Result<Said, RuleFault>
         ensures { result ≡ line_said line.now }
     {
-        let fields = read_fields(line)?;
-        Said::read(fields)
+        Said::read(read_fields(line)?)
     }
 
     // The rule that this says.
@@ -92,8 +80,6 @@ pub fn read_line(line: &[u8]) -> Result<Rule, RuleFault>
 }
 
 // Rule lines that are read, and rule lines that are refused.
-pub fn examples_stand() -> u8
+pub fn examples_stand()
     ensures { Examples }
-{
-    0
-}
+{}
