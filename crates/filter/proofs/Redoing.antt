@@ -1,5 +1,5 @@
 -- Turns of a withdraw.
-use Rattle.std.proofs.Common.{◌≡◌, ℕ, zero, suc, ◌+◌, ◌-◌, ◌<◌, ◌≤◌, List, [], ◌∷◌, length, get_or, take, set, None, Ok, Err, Option, sym, refl, ap, ◌∙◌, subst, inl, inr, add-one, arith, eq-eqb, le-leb}
+use Rattle.std.proofs.Common.{◌≡◌, ℕ, ◌-◌, ◌≤◌, List, [], length, None, Ok, Err, Option, sym, refl, ap, ◌∙◌, subst, inl, inr, arith, eq-eqb, le-leb}
 use Rattle.std.specs.List.{remove}
 use Rattle.engine.specs.declared.fault.EngineFault.{EngineFault}
 use Rattle.engine.specs.Ops.{Op}
@@ -10,49 +10,16 @@ use Rattle.kind.specs.Kinds.{Reading}
 use Rattle.steps.specs.Steps.{withdraw_steps, replace_steps}
 use Rattle.steps.specs.Works.{Rebuilds}
 use Rattle.steps.proofs.Rebuilding.{rebuilds_ok, rebuilds_err}
-use Rattle.filter.specs.declared.answer.Answer.{Answer}
-use Rattle.filter.specs.declared.answer.Answer.TheVariants.{Withdrawn, Refused}
+use Rattle.filter.specs.declared.answer.Reply.TheVariants.{Withdrawn}
 use Rattle.filter.specs.declared.fault.FilterFault.{FilterFault}
 use Rattle.filter.specs.declared.fault.FilterFault.TheVariants as fault
+use Rattle.filter.specs.Answers.{Answer}
 use Rattle.filter.specs.Books.{Books}
 use Rattle.filter.specs.Calls.{withdrawing, refusal, By}
 use Rattle.filter.specs.Turns.{Sound, Turn, Went, settled}
 use Rattle.filter.proofs.Turning.{settle_ok, settle_err, refused_after}
 
-module _ {A : Type 0} where
-  removed_step : (xs : List A) (i : ℕ) (d : A) → suc i < length xs → remove (set xs i (get_or xs (suc i) d)) (suc i) ≡ remove xs i
-  removed_step [] i d h = absurd (omega arith)
-  removed_step (x ∷ []) i d h = absurd (omega arith)
-  removed_step (x ∷ (y ∷ zs)) zero d h = refl
-  removed_step (x ∷ (y ∷ zs)) (suc i) d h = ap (λ (l : List A). x ∷ l) (removed_step (y ∷ zs) i d (omega arith))
-
-  -- the rule behind the gap moves into it
-  pub removed_more : (xs : List A) (i : ℕ) (d : A) → i + 1 < length xs → remove (set xs i (get_or xs (i + 1) d)) (i + 1) ≡ remove xs i
-  removed_more xs i d h = rw add-one (removed_step xs i d (omega arith))
-
-  removed_end : (xs : List A) (l : ℕ) → take l (remove xs l) ≡ take l xs
-  removed_end xs zero = refl
-  removed_end [] (suc l) = refl
-  removed_end (x ∷ xs) (suc l) = ap (λ (l : List A). x ∷ l) (removed_end xs l)
-
-  removed_take : (xs : List A) (at l : ℕ) → at ≤ l → take l (remove xs at) ≡ remove (take (suc l) xs) at
-  removed_take [] zero zero h = refl
-  removed_take [] zero (suc l) h = refl
-  removed_take [] (suc at) zero h = refl
-  removed_take [] (suc at) (suc l) h = refl
-  removed_take (x ∷ xs) zero l h = refl
-  removed_take (x ∷ xs) (suc at) zero h = absurd (omega arith)
-  removed_take (x ∷ xs) (suc at) (suc l) h = ap (λ (l : List A). x ∷ l) (removed_take xs at l (omega arith))
-
-  -- the gap has reached the end
-  pub removed_all : (xs old : List A) (i at count : ℕ) → at < count → i ≡ count - 1 → remove xs i ≡ remove old at → take (count - 1) xs ≡ remove (take count old) at
-  removed_all xs old i at zero h e q = absurd (omega arith)
-  removed_all xs old i at (suc l) h e q =
-      let k : suc l - 1 ≡ l = omega arith in
-      let j : i ≡ l = omega arith in
-      rw k (sym (removed_end xs l) ∙ ap (take l) (ap (remove xs) (sym j) ∙ q) ∙ removed_take old at l (omega arith))
-
-clash : (f : FilterFault) → ◌≡◌ {A = Answer} Withdrawn (Refused f) → ⊥
+clash : (f : FilterFault) → ◌≡◌ {A = Answer} (Ok Withdrawn) (Err f) → ⊥
 clash f e = let z : ◌≡◌ {A = ℕ} 0 1 = cc in omega arith
 
 module _ (R : Rooms) (k : Reading) (i : ℕ) (e e' : View R.Shape) (b : Books) (p : k.bits ≡ e.vars) (from : 1 ≤ i) (to : i ≤ length b.draft) where
@@ -62,23 +29,23 @@ module _ (R : Rooms) (k : Reading) (i : ℕ) (e e' : View R.Shape) (b : Books) (
   abbrev rest_of : List Rule
   rest_of = remove b.draft (i - 1)
 
-  pub withdraw_done : (x : Unit {0}) (b' : Books) → Rebuilds R rest_of k.bits e e' (Ok x) → b'.live ≡ b.live → b'.draft ≡ rest_of → Sound k e b → Turn R k (withdrawing i) e b e' b' Withdrawn
+  pub withdraw_done : (x : Unit {0}) (b' : Books) → Rebuilds R rest_of k.bits e e' (Ok x) → b'.live ≡ b.live → b'.draft ≡ rest_of → Sound k e b → Turn R k (withdrawing i) e b e' b' (Ok Withdrawn)
   withdraw_done x b' h l d s =
       let w = rebuilds_ok R rest_of k.bits b.live b.draft e e' s x h in
       record {
         same = w.1;
-        right = subst (λ (o : Option FilterFault). By o k b (withdrawing i) Withdrawn) (sym no_refusal) (inl refl);
+        right = subst (λ (o : Option FilterFault). By o k b (withdrawing i) (Ok Withdrawn)) (sym no_refusal) (inl refl);
         drew = λ j. record { live = l j; draft = d j };
         sound = w.2 ∙ rw (l, d) refl;
         stays = λ f z. absurd (clash f z);
-        went = subst (λ (o : Option FilterFault). Went R o k b (withdrawing i) e e' Withdrawn) (sym no_refusal)
+        went = subst (λ (o : Option FilterFault). Went R o k b (withdrawing i) e e' (Ok Withdrawn)) (sym no_refusal)
             record { known = (withdraw_steps rest_of k.bits, refl); ends = λ ops o. ap (λ (x : List Op). settled R (ran R e x)) o ∙ settle_ok R e e' (withdraw_steps rest_of k.bits) w.0 };
       }
 
-  pub withdraw_refused : (f : EngineFault) → Rebuilds R rest_of k.bits e e' (Err f) → Sound k e b → Turn R k (withdrawing i) e b e' b (Refused (fault.Engine f))
+  pub withdraw_refused : (f : EngineFault) → Rebuilds R rest_of k.bits e e' (Err f) → Sound k e b → Turn R k (withdrawing i) e b e' b (Err (fault.Engine f))
   withdraw_refused f h s =
       let t = rebuilds_err R rest_of k.bits b.live b.draft e e' s f (sym p) h in
-      refused_after R k (withdrawing i) e e' b f no_refusal t.1 (inr (ap (λ (x : EngineFault). Refused (fault.Engine x)) t.0)) s t.2
+      refused_after R k (withdrawing i) e e' b f no_refusal t.1 (inr (ap (λ (x : EngineFault). Err (fault.Engine x)) t.0)) s t.2
       record { known = (withdraw_steps rest_of k.bits, refl); ends = λ ops o. ap (λ (x : List Op). settled R (ran R e x)) o ∙ went h }
     where
       went : Rebuilds R rest_of k.bits e e' (Err f) → settled R (ran R e (withdraw_steps rest_of k.bits)) ≡ (e', Err f)

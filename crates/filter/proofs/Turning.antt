@@ -1,5 +1,5 @@
 -- Turns of a filter, from what its engine did.
-use Rattle.std.proofs.Common.{◌≡◌, ℕ, ◌+◌, ◌<◌, ◌≤◌, Bool, cond, List, [], ◌∷◌, ◌++◌, length, Some, None, Ok, Err, Option, Result, sym, refl, ap, ◌∙◌, subst, inl, inr, arith, le-ltb, lt-ltb, eq-eqb}
+use Rattle.std.proofs.Common.{◌≡◌, ℕ, ◌+◌, ◌<◌, ◌≤◌, Bool, true, false, cond, ◌==◌, List, [], ◌∷◌, ◌++◌, length, Some, None, Ok, Err, Option, Result, sym, refl, ap, ◌∙◌, subst, inl, inr, arith, le-ltb, lt-ltb, eq-eqb, eqb-true}
 use Rattle.engine.specs.declared.fault.EngineFault.{EngineFault}
 use Rattle.engine.specs.Ops.{Op, Regs, within, bit_at}
 use Rattle.engine.specs.Does.{Rooms, View, Does, moved}
@@ -12,12 +12,12 @@ use Rattle.steps.specs.Steps.{add_steps, store_steps, sweep_steps}
 use Rattle.steps.specs.Works.{Admits}
 use Rattle.steps.proofs.Adding.{admits_ok, admits_err}
 use Rattle.filter.specs.declared.answer.Added.{Added as Done}
-use Rattle.filter.specs.declared.answer.Answer.{Answer}
-use Rattle.filter.specs.declared.answer.Answer.TheVariants.{Added, Verdict, Refused}
+use Rattle.filter.specs.declared.answer.Reply.TheVariants.{Added, Verdict}
 use Rattle.filter.specs.declared.fault.FilterFault.{FilterFault}
 use Rattle.filter.specs.declared.fault.FilterFault.TheVariants as fault
+use Rattle.filter.specs.Answers.{Answer}
 use Rattle.filter.specs.Books.{Books}
-use Rattle.filter.specs.Calls.{Asked, adding, judging, refusal, fit_refusal, By, drawn}
+use Rattle.filter.specs.Calls.{Asked, adding, judging, fitting_bits, refusal, fit_refusal, By, drawn}
 use Rattle.filter.specs.Turns.{Sound, Turn, Went, Made, Steps, settled}
 
 -- a row that is answered
@@ -28,34 +28,42 @@ settle_ok R e e' ops h = ap (settled R) h
 pub settle_err : (R : Rooms) (e at e' : View R.Shape) (ops : List Op) (f : EngineFault) → ran R e ops ≡ (at, Err f) → ran R at (sweep_steps []) ≡ (e', Ok tt) → settled R (ran R e ops) ≡ (e', Err f)
 settle_err R e at e' ops f h k = ap (settled R) h ∙ ap (λ (t : View R.Shape × Result (Unit {0}) EngineFault). (t.0, Err f)) k
 
+-- a number of bits that fits is the kind's, and the engine's number of variables
+pub fits : (k : Reading) (n m : ℕ) → Ok n ≡ fitting_bits k m → (n ≡ k.bits) × (k.bits ≡ m)
+fits k n m e = go (k.bits == m) refl e
+  where
+    go : (b : Bool) → (k.bits == m) ≡ b → ◌≡◌ {A = Result ℕ FilterFault} (Ok n) (cond b (Ok k.bits) (Err fault.Mismatch)) → (n ≡ k.bits) × (k.bits ≡ m)
+    go true h e = (cc, eqb-true k.bits m h)
+    go false h e = absurd (let z : ◌≡◌ {A = ℕ} 0 1 = cc in omega arith)
+
 -- a kind and an engine that fit
 pub fitting : (k : Reading) (n : ℕ) (b : Books) (c : Asked) → k.bits ≡ n → refusal k n b c ≡ fit_refusal k b c
 fitting k n b c p = rw (eq-eqb k.bits n p) refl
 
 -- a call that is refused before the engine is asked
-pub refused_before : (R : Rooms) (k : Reading) (c : Asked) (e : View R.Shape) (b : Books) (f : FilterFault) → refusal k e.vars b c ≡ Some f → Sound k e b → Turn R k c e b e b (Refused f)
+pub refused_before : (R : Rooms) (k : Reading) (c : Asked) (e : View R.Shape) (b : Books) (f : FilterFault) → refusal k e.vars b c ≡ Some f → Sound k e b → Turn R k c e b e b (Err f)
 refused_before R k c e b f z s = record {
   same = refl;
-  right = subst (λ (o : Option FilterFault). By o k b c (Refused f)) (sym z) refl;
+  right = subst (λ (o : Option FilterFault). By o k b c (Err f)) (sym z) refl;
   drew = refl;
   sound = s;
   stays = λ g h. refl;
-  went = subst (λ (o : Option FilterFault). Went R o k b c e e (Refused f)) (sym z) refl;
+  went = subst (λ (o : Option FilterFault). Went R o k b c e e (Err f)) (sym z) refl;
 }
 
 -- a call whose engine calls were refused for want of room
-pub refused_after : (R : Rooms) (k : Reading) (c : Asked) (e e' : View R.Shape) (b : Books) (f : EngineFault) → refusal k e.vars b c ≡ None → e'.vars ≡ e.vars → By None k b c (Refused (fault.Engine f)) → Sound k e b → Sound k e' b → Made R k b c e e' (Refused (fault.Engine f)) → Turn R k c e b e' b (Refused (fault.Engine f))
+pub refused_after : (R : Rooms) (k : Reading) (c : Asked) (e e' : View R.Shape) (b : Books) (f : EngineFault) → refusal k e.vars b c ≡ None → e'.vars ≡ e.vars → By None k b c (Err (fault.Engine f)) → Sound k e b → Sound k e' b → Made R k b c e e' (Err (fault.Engine f)) → Turn R k c e b e' b (Err (fault.Engine f))
 refused_after R k c e e' b f none same fair s s' made = record {
   same = same;
-  right = subst (λ (o : Option FilterFault). By o k b c (Refused (fault.Engine f))) (sym none) fair;
+  right = subst (λ (o : Option FilterFault). By o k b c (Err (fault.Engine f))) (sym none) fair;
   drew = refl;
   sound = s';
   stays = λ g h. s' ∙ sym s;
-  went = subst (λ (o : Option FilterFault). Went R o k b c e e' (Refused (fault.Engine f))) (sym none) made;
+  went = subst (λ (o : Option FilterFault). Went R o k b c e e' (Err (fault.Engine f))) (sym none) made;
 }
 
 -- a refusal is no answer of another sort
-clash : (a : Answer) (f : FilterFault) (x : Done) → a ≡ Added x → a ≡ Refused f → ⊥
+clash : (a : Answer) (f : FilterFault) (x : Done) → a ≡ Ok (Added x) → a ≡ Err f → ⊥
 clash a f x p q = let z : ◌≡◌ {A = ℕ} 0 1 = cc in omega arith
 
 same_rule : (k : Reading) (line : List ℕ) (x y : Rule) → k.reads line ≡ Ok x → k.reads line ≡ Ok y → x ≡ y
@@ -65,7 +73,7 @@ same_rule k line x y p q = cc
 add_fits : (k : Reading) (n : ℕ) (b : Books) (line : List ℕ) (r : Rule) → k.bits ≡ n → k.reads line ≡ Ok r → length b.draft < 64 → refusal k n b (adding line) ≡ None
 add_fits k n b line r p q h = rw (eq-eqb k.bits n p, q, lt-ltb (length b.draft) 64 h) refl
 
-pub add_full : (R : Rooms) (k : Reading) (line : List ℕ) (r : Rule) (e : View R.Shape) (b : Books) → k.bits ≡ e.vars → k.reads line ≡ Ok r → 64 ≤ length b.draft → Sound k e b → Turn R k (adding line) e b e b (Refused fault.Full)
+pub add_full : (R : Rooms) (k : Reading) (line : List ℕ) (r : Rule) (e : View R.Shape) (b : Books) → k.bits ≡ e.vars → k.reads line ≡ Ok r → 64 ≤ length b.draft → Sound k e b → Turn R k (adding line) e b e b (Err fault.Full)
 add_full R k line r e b p q h = refused_before R k (adding line) e b fault.Full (rw (eq-eqb k.bits e.vars p, q, le-ltb (length b.draft) 64 h) refl)
 
 add_known : (k : Reading) (b : Books) (line : List ℕ) (r : Rule) → k.reads line ≡ Ok r → (ops : List Op) × Steps k b (adding line) ops
@@ -74,29 +82,29 @@ add_known k b line r q = (add_steps r k.bits, (r, q, refl))
 add_steps_are : (k : Reading) (b : Books) (line : List ℕ) (r : Rule) → k.reads line ≡ Ok r → (ops : List Op) → Steps k b (adding line) ops → ops ≡ add_steps r k.bits
 add_steps_are k b line r q ops (r', q', o) = o ∙ ap (λ (x : Rule). add_steps x k.bits) (same_rule k line r' r q' q)
 
-pub add_refused : (R : Rooms) (k : Reading) (line : List ℕ) (r : Rule) (e e' : View R.Shape) (b : Books) (f : EngineFault) → k.bits ≡ e.vars → k.reads line ≡ Ok r → length b.draft < 64 → Admits R r k.bits e e' (Err f) → Sound k e b → Turn R k (adding line) e b e' b (Refused (fault.Engine f))
+pub add_refused : (R : Rooms) (k : Reading) (line : List ℕ) (r : Rule) (e e' : View R.Shape) (b : Books) (f : EngineFault) → k.bits ≡ e.vars → k.reads line ≡ Ok r → length b.draft < 64 → Admits R r k.bits e e' (Err f) → Sound k e b → Turn R k (adding line) e b e' b (Err (fault.Engine f))
 add_refused R k line r e e' b f p q h a s =
     let t = admits_err R r k.bits b.live b.draft e e' s f (sym p) a in
-    refused_after R k (adding line) e e' b f (add_fits k e.vars b line r p q h) t.1 (inr (ap (λ (x : EngineFault). Refused (fault.Engine x)) t.0)) s t.2 record { known = add_known k b line r q; ends = went a }
+    refused_after R k (adding line) e e' b f (add_fits k e.vars b line r p q h) t.1 (inr (ap (λ (x : EngineFault). Err (fault.Engine x)) t.0)) s t.2 record { known = add_known k b line r q; ends = went a }
   where
     went : Admits R r k.bits e e' (Err f) → (ops : List Op) → Steps k b (adding line) ops → settled R (ran R e ops) ≡ (e', Err f)
     went (at, works, swept) ops o =
         ap (λ (l : List Op). settled R (ran R e l)) (add_steps_are k b line r q ops o) ∙ settle_err R e at e' (add_steps r k.bits) f (works.row.goes (store_steps r [])) (swept.goes [])
 
-pub add_kept : (R : Rooms) (k : Reading) (line : List ℕ) (r : Rule) (e e' : View R.Shape) (b b' : Books) (x : Done) → k.bits ≡ e.vars → k.reads line ≡ Ok r → length b.draft < 64 → Admits R r k.bits e e' (Ok x.idle) → x.number ≡ length b.draft + 1 → b'.live ≡ b.live → b'.draft ≡ b.draft ++ (r ∷ []) → Sound k e b → Turn R k (adding line) e b e' b' (Added x)
+pub add_kept : (R : Rooms) (k : Reading) (line : List ℕ) (r : Rule) (e e' : View R.Shape) (b b' : Books) (x : Done) → k.bits ≡ e.vars → k.reads line ≡ Ok r → length b.draft < 64 → Admits R r k.bits e e' (Ok x.idle) → x.number ≡ length b.draft + 1 → b'.live ≡ b.live → b'.draft ≡ b.draft ++ (r ∷ []) → Sound k e b → Turn R k (adding line) e b e' b' (Ok (Added x))
 add_kept R k line r e e' b b' x p q h a c l d s =
     let t = admits_ok R r k.bits b.live b.draft e e' s x.idle a in
     let none = add_fits k e.vars b line r p q h in
     record {
       same = t.0;
-      right = subst (λ (o : Option FilterFault). By o k b (adding line) (Added x)) (sym none) (inl record { rule = r; read = q; told = x; answer = refl; number = c; idle = t.2 });
+      right = subst (λ (o : Option FilterFault). By o k b (adding line) (Ok (Added x))) (sym none) (inl record { rule = r; read = q; told = x; answer = refl; number = c; idle = t.2 });
       drew = (λ j. record { live = l j; draft = d j }) ∙ sym kept;
       sound = t.1 ∙ rw (l, d) refl;
-      stays = λ f z. absurd (clash (Added x) f x refl z);
-      went = subst (λ (o : Option FilterFault). Went R o k b (adding line) e e' (Added x)) (sym none) record { known = add_known k b line r q; ends = went a };
+      stays = λ f z. absurd (clash (Ok (Added x)) f x refl z);
+      went = subst (λ (o : Option FilterFault). Went R o k b (adding line) e e' (Ok (Added x))) (sym none) record { known = add_known k b line r q; ends = went a };
     }
   where
-    kept : drawn k b (adding line) (Added x) ≡ record { live = b.live; draft = b.draft ++ (r ∷ []) }
+    kept : drawn k b (adding line) (Ok (Added x)) ≡ record { live = b.live; draft = b.draft ++ (r ∷ []) }
     kept = rw q refl
 
     went : Admits R r k.bits e e' (Ok x.idle) → (ops : List Op) → Steps k b (adding line) ops → settled R (ran R e ops) ≡ (e', Ok tt)
@@ -106,7 +114,7 @@ add_kept R k line r e e' b b' x p q h a c l d s =
 same_bits : (k : Reading) (frame x y : List ℕ) → k.turns frame ≡ Ok x → k.turns frame ≡ Ok y → x ≡ y
 same_bits k frame x y p q = cc
 
-pub judge_done : (R : Rooms) (k : Reading) (frame s : List ℕ) (e e' : View R.Shape) (b : Books) (x : Bool) (a : Action) → k.bits ≡ e.vars → k.turns frame ≡ Ok s → Does R (Op.evaluate 0 (within e.vars (bit_at s))) (e.regs 0 (bit_at s)) e e' (Ok x) → a ≡ cond x Block Pass → Sound k e b → Turn R k (judging frame) e b e' b (Verdict a)
+pub judge_done : (R : Rooms) (k : Reading) (frame s : List ℕ) (e e' : View R.Shape) (b : Books) (x : Bool) (a : Action) → k.bits ≡ e.vars → k.turns frame ≡ Ok s → Does R (Op.evaluate 0 (within e.vars (bit_at s))) (e.regs 0 (bit_at s)) e e' (Ok x) → a ≡ cond x Block Pass → Sound k e b → Turn R k (judging frame) e b e' b (Ok (Verdict a))
 judge_done R k frame s e e' b x a p q d named sound =
     let none : refusal k e.vars b (judging frame) ≡ None = rw (eq-eqb k.bits e.vars p, q) refl in
     let after : e' ≡ moved R (Op.evaluate 0 (within e.vars (bit_at s))) e = d.left in
@@ -114,11 +122,11 @@ judge_done R k frame s e e' b x a p q d named sound =
     let regs : e'.regs ≡ e.regs = ap (λ (v : View R.Shape). v.regs) after in
     record {
       same = ap (λ (v : View R.Shape). v.vars) after;
-      right = subst (λ (o : Option FilterFault). By o k b (judging frame) (Verdict a)) (sym none) record { bits = s; turned = q; answer = ap Verdict (named ∙ ap (λ (y : Bool). cond y Block Pass) (told ∙ ap (λ (m : Regs). m 0 (bit_at s)) sound)) };
+      right = subst (λ (o : Option FilterFault). By o k b (judging frame) (Ok (Verdict a))) (sym none) record { bits = s; turned = q; answer = ap (λ (x : Action). Ok (Verdict x)) (named ∙ ap (λ (y : Bool). cond y Block Pass) (told ∙ ap (λ (m : Regs). m 0 (bit_at s)) sound)) };
       drew = refl;
       sound = regs ∙ sound;
       stays = λ f z. regs;
-      went = subst (λ (o : Option FilterFault). Went R o k b (judging frame) e e' (Verdict a)) (sym none) record { known = (Op.evaluate 0 (within k.bits (bit_at s)) ∷ [], (s, q, refl)); ends = went };
+      went = subst (λ (o : Option FilterFault). Went R o k b (judging frame) e e' (Ok (Verdict a))) (sym none) record { known = (Op.evaluate 0 (within k.bits (bit_at s)) ∷ [], (s, q, refl)); ends = went };
     }
   where
     value : (x y : Bool) → ◌≡◌ {A = Result Bool EngineFault} (Ok x) (Ok y) → x ≡ y

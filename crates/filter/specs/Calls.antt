@@ -14,12 +14,11 @@ use Rattle.kind.specs.Rules.{judged}
 use Rattle.steps.specs.Meaning.{Decides}
 use Rattle.search.specs.Least.{Least}
 use Rattle.filter.specs.declared.answer.Added.{Added as Done}
-use Rattle.filter.specs.declared.answer.Answer.{Answer}
-use Rattle.filter.specs.declared.answer.Answer.TheVariants.{Added, Committed, Verdict, Withdrawn, Alike, Differs, Refused}
+use Rattle.filter.specs.declared.answer.Reply.TheVariants.{Added, Committed, Verdict, Withdrawn, Alike, Differs}
 use Rattle.filter.specs.declared.fault.FilterFault.{FilterFault}
 use Rattle.filter.specs.declared.fault.FilterFault.TheVariants as fault
 use Rattle.filter.specs.Books.{Books}
-use Rattle.filter.specs.Answers.{answered}
+use Rattle.filter.specs.Answers.{Answer, answered}
 
 -- what is asked of a filter
 pub data Asked : Type 0 where
@@ -48,6 +47,10 @@ judge_refusal (Ok s) = None
 abbrev pub withdraw_refusal : ℕ → List Rule → Option FilterFault
 withdraw_refusal i draft = cond (nat_le 1 i && nat_le i (length draft)) None (Some fault.Missing)
 
+-- the number of bits of a frame, which has to be the engine's number n of variables
+abbrev pub fitting_bits : Reading → ℕ → Result ℕ FilterFault
+fitting_bits k n = cond (k.bits == n) (Ok k.bits) (Err fault.Mismatch)
+
 -- a refusal of a call for another reason than a kind and an engine that differ, or room
 abbrev pub fit_refusal : Reading → Books → Asked → Option FilterFault
 fit_refusal k b (adding line) = add_refusal (k.reads line) b.draft
@@ -62,14 +65,14 @@ refusal k n b c = cond (k.bits == n) (fit_refusal k b c) (Some fault.Mismatch)
 
 -- there is no room
 abbrev pub no_room : Answer
-no_room = Refused (fault.Engine engine.Room)
+no_room = Err (fault.Engine engine.Room)
 
 -- the rule of the line is last in the draft, with its number; it is told idle exactly where it decides no frame there
 pub record Adds (k : Reading) (b : Books) (line : List ℕ) (a : Answer) : Type 0 where
   pub rule : Rule
   pub read : k.reads line ≡ Ok rule
   pub told : Done
-  pub answer : a ≡ Added told
+  pub answer : a ≡ Ok (Added told)
   pub number : told.number ≡ length b.draft + 1
   pub idle : Says told.idle ((s : Bits) → Decides k.bits (b.draft ++ (rule ∷ [])) (length b.draft) s → ⊥)
 
@@ -77,29 +80,29 @@ pub record Adds (k : Reading) (b : Books) (line : List ℕ) (a : Answer) : Type 
 pub record Judges (k : Reading) (b : Books) (frame : List ℕ) (a : Answer) : Type 0 where
   pub bits : List ℕ
   pub turned : k.turns frame ≡ Ok bits
-  pub answer : a ≡ Verdict (verdict k.bits b.live (bit_at bits))
+  pub answer : a ≡ Ok (Verdict (verdict k.bits b.live (bit_at bits)))
 
 -- the books judge every frame alike
 pub record Agrees (k : Reading) (b : Books) (a : Answer) : Type 0 where
   pub same : (s : Bits) → judged k.bits b.live s ≡ judged k.bits b.draft s
-  pub answer : a ≡ Alike
+  pub answer : a ≡ Ok Alike
 
 -- the least frame that they judge differently is in the first bytes of the place
 pub record Shows (k : Reading) (b : Books) (place : List ℕ) (a : Answer) : Type 0 where
   pub bits : Bits
   pub least : Least k.bits (judged k.bits b.live) (judged k.bits b.draft) bits
-  pub answer : a ≡ Differs (over (k.backs bits) place)
+  pub answer : a ≡ Ok (Differs (over (k.backs bits) place))
 
 -- what a call that is not so refused may answer
 abbrev pub Fair : Reading → Books → Asked → Answer → Type 0
 Fair k b (adding line) a = Adds k b line a ⊎ (a ≡ no_room)
-Fair k b committing a = a ≡ Committed
+Fair k b committing a = a ≡ Ok Committed
 Fair k b (judging frame) a = Judges k b frame a
-Fair k b (withdrawing i) a = (a ≡ Withdrawn) ⊎ (a ≡ no_room)
+Fair k b (withdrawing i) a = (a ≡ Ok Withdrawn) ⊎ (a ≡ no_room)
 Fair k b (comparing place) a = Agrees k b a ⊎ (Shows k b place a ⊎ (a ≡ no_room))
 
 abbrev pub By : Option FilterFault → Reading → Books → Asked → Answer → Type 0
-By (Some f) k b c a = a ≡ Refused f
+By (Some f) k b c a = a ≡ Err f
 By None k b c a = Fair k b c a
 
 -- the answer is right; n is the engine's number of variables

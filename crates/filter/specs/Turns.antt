@@ -12,11 +12,9 @@ use Rattle.steps.specs.Steps.{add_steps, withdraw_steps, sweep_steps}
 use Rattle.steps.specs.Meaning.{meaning}
 use Rattle.search.specs.Steps.{alike_steps, least_steps}
 use Rattle.search.specs.Least.{Least}
-use Rattle.filter.specs.declared.answer.Answer.{Answer}
-use Rattle.filter.specs.declared.answer.Answer.TheVariants.{Refused}
 use Rattle.filter.specs.declared.fault.FilterFault.{FilterFault}
 use Rattle.filter.specs.Books.{Books}
-use Rattle.filter.specs.Answers.{engine_told}
+use Rattle.filter.specs.Answers.{Answer, engine_told}
 use Rattle.filter.specs.Calls.{Asked, adding, committing, judging, withdrawing, comparing, refusal, Right, drawn}
 
 -- the registers mean what the books say
@@ -59,6 +57,6 @@ pub record Turn (R : Rooms) (k : Reading) (c : Asked) (e : View R.Shape) (b : Bo
   -- every register means what the books then say
   pub sound : Sound k e' b'
   -- a refused call leaves every register
-  pub stays : (f : FilterFault) → a ≡ Refused f → e'.regs ≡ e.regs
+  pub stays : (f : FilterFault) → a ≡ Err f → e'.regs ≡ e.regs
   -- the engine calls that were made, and the refusal for want of room exactly where one of them lacks it
   pub went : Went R (refusal k e.vars b c) k b c e e' a

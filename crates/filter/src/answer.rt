@@ -3,14 +3,14 @@ use engine::assignment::Assignment;
 use kind::rule::Action;
 
 // A rule that was added: its number in the draft, and whether it decides no frame there.
-#[derive(Clone, Copy)]
+#[derive(Clone, Copy, Debug, PartialEq, Eq)]
 pub struct Added {
     pub number: usize,
     pub idle: bool,
 }
 
 // What the two books do with all frames.
-#[derive(Clone, Copy)]
+#[derive(Clone, Copy, Debug, PartialEq, Eq)]
 pub enum Comparison {
     // they judge every frame alike
     Alike,
@@ -18,9 +18,9 @@ pub enum Comparison {
     Differs,
 }
 
-// What a call of a filter answers.
-#[derive(Clone, Copy)]
-pub enum Answer {
+// What a call of a filter replies.
+#[derive(Clone, Copy, Debug, PartialEq, Eq)]
+pub enum Reply {
     Added(Added),
     Committed,
     Verdict(Action),
@@ -28,5 +28,7 @@ pub enum Answer {
     Alike,
     // with what the caller's place then holds
     Differs(Assignment),
-    Refused(FilterFault),
 }
+
+// What a call of a filter answers: a reply, or why it is refused.
+pub type Answer = Result<Reply, FilterFault>;

@@ -1,17 +1,17 @@
-ghost use Rattle.std.specs.Prelude.{◌≡◌, ◌≤◌, length};
+ghost use Rattle.std.specs.Prelude.{◌≡◌};
 
+use arrayvec::ArrayVec;
 use kind::rule::Rule;
-
-mod shelf;
 
 // The most rules that a book holds.
 pub const BOOK_MAX: usize = 64;
 
 // Rules in their order, at most 64.
-#[derive(Clone, Copy)]
-pub struct Book {
-    rules: [Rule; BOOK_MAX],
-    count: usize,
-    ghost few: { count ≤ 64 },
-    ghost whole: { length rules ≡ 64 },
+pub type Book = ArrayVec<Rule, BOOK_MAX>;
+
+// A book with the same rules.
+pub(crate) fn copied(book: &Book) -> Book
+    ensures { result.items ≡ book.now.items }
+{
+    ArrayVec::try_from(book.as_slice()).unwrap()
 }

@@ -6,7 +6,7 @@ use engine::fault::EngineFault;
 use kind::fault::{FrameFault, RuleFault};
 
 // Why a filter refuses a call; a fault of a part passes up whole.
-#[derive(Clone, Copy)]
+#[derive(Clone, Copy, Debug, PartialEq, Eq)]
 pub enum FilterFault {
     Rule(RuleFault),
     Frame(FrameFault),

@@ -2,18 +2,19 @@ ghost use Rattle.std.specs.Prelude.{◌≡◌, Ok};
 ghost use Rattle.engine.specs.Rows.{Ran};
 ghost use Rattle.steps.specs.Steps.{wipe_steps};
 ghost use Rattle.filter.specs.Books.{books, no_rules};
-ghost use Rattle.filter.specs.Calls.{Asked};
+ghost use Rattle.filter.specs.Calls.{Asked, fitting_bits};
 ghost use Rattle.filter.specs.Answers.{added_as, committed_as, judged_as, withdrawn_as, compared_as, Stays};
 ghost use Rattle.filter.specs.Turns.{Sound, Turn};
 
 use crate::answer::{Added, Comparison};
-use crate::book::{BOOK_MAX, Book};
+use crate::book::{Book, copied};
 use crate::fault::FilterFault;
 use engine::assignment::Assignment;
 use engine::calls::DecidingEngine;
 use kind::kind::Kind;
 use kind::rule::Action;
 use search::least::least;
+use std::marker::Model;
 use steps::add::admit;
 use steps::rebuild::rebuild;
 use steps::scratch::{BLOCKED, LIVE};
@@ -28,13 +29,26 @@ pub struct Filter<K: Kind, E: DecidingEngine> {
     draft: Book,
 }
 
+// The registers mean what the books say.
+impl<K: Kind, E: DecidingEngine> Model for Filter<K, E> {
+    ghost use Rattle.filter.specs.Books.{Held};
+
+    ghost Value = { Held E };
+
+    ghost use Rattle.filter.specs.Books.{books};
+    ghost use Rattle.filter.specs.Turns.{Sound};
+
+    ghost view = { λ f. record { engine = f.engine; books = books f.live f.draft } };
+
+    ghost invariant = { λ f. Sound K.Kind.reading (E.Engine.view f.engine) (books f.live f.draft) };
+}
+
 impl<K: Kind, E: DecidingEngine> Filter<K, E> {
     // A filter with empty books; every register becomes false.
     pub fn new(kind: K, engine: E) -> Filter<K, E>
         ensures row { Ran {A = Unit {0}} E.Engine.rooms wipe_steps (E.Engine.view engine) (E.Engine.view result.engine) (Ok tt) }
         ensures vars { (E.Engine.view result.engine).vars ≡ (E.Engine.view engine).vars }
-        ensures books { books result.live result.draft ≡ no_rules }
-        ensures sound { Sound K.Kind.reading (E.Engine.view result.engine) no_rules }
+        ensures books { result.books ≡ no_rules }
     {
         let mut engine = engine;
         wipe(&mut engine);
@@ -53,72 +67,65 @@ impl<K: Kind, E: DecidingEngine> Filter<K, E> {
         self.kind.size()
     }
 
-    // Puts the rule that the line says last in the draft; tells its number, and whether it decides no frame there.
-    pub fn add(&mut self, line: &[u8]) -> Result<Added, FilterFault>
-        ensures { Sound K.Kind.reading (E.Engine.view self.old.engine) (books self.old.live self.old.draft) → Turn E.Engine.rooms K.Kind.reading (Asked.adding line.now) (E.Engine.view self.old.engine) (books self.old.live self.old.draft) (E.Engine.view self.new.engine) (books self.new.live self.new.draft) (added_as result) }
+    // The number of bits of a frame, which has to be the engine's number of variables.
+    fn bits(&self) -> Result<u8, FilterFault>
+        ensures { result ≡ fitting_bits K.Kind.reading (E.Engine.view self.now.engine).vars }
     {
-        let n = self.kind.bits();
-        if n != self.engine.variables() {
+        let bits = self.kind.bits();
+        if bits != self.engine.variables() {
             return Err(FilterFault::Mismatch);
         }
+        Ok(bits)
+    }
+
+    // Puts the rule that the line says last in the draft; tells its number, and whether it decides no frame there.
+    pub fn add(&mut self, line: &[u8]) -> Result<Added, FilterFault>
+        ensures { Turn E.Engine.rooms K.Kind.reading (Asked.adding line.now) (E.Engine.view self.old.engine) self.old.books (E.Engine.view self.new.engine) self.new.books (added_as result) }
+    {
+        let n = self.bits()?;
         let rule = self.kind.read(line)?;
-        let count = self.draft.len();
-        if count >= BOOK_MAX {
+        if self.draft.is_full() {
             return Err(FilterFault::Full);
         }
         let idle = admit(&mut self.engine, &rule, n)?;
         self.draft.push(rule);
         Ok(Added {
-            number: count + 1,
+            number: self.draft.len(),
             idle,
         })
     }
 
     // Makes the draft the live book.
     pub fn commit(&mut self) -> Result<(), FilterFault>
-        ensures { Sound K.Kind.reading (E.Engine.view self.old.engine) (books self.old.live self.old.draft) → Turn E.Engine.rooms K.Kind.reading Asked.committing (E.Engine.view self.old.engine) (books self.old.live self.old.draft) (E.Engine.view self.new.engine) (books self.new.live self.new.draft) (committed_as result) }
+        ensures { Turn E.Engine.rooms K.Kind.reading Asked.committing (E.Engine.view self.old.engine) self.old.books (E.Engine.view self.new.engine) self.new.books (committed_as result) }
     {
-        if self.kind.bits() != self.engine.variables() {
-            return Err(FilterFault::Mismatch);
-        }
+        self.bits()?;
         self.engine.copy(LIVE, BLOCKED)?;
-        self.live = self.draft;
+        self.live = copied(&self.draft);
         Ok(())
     }
 
     // What the live book does with the frame.
     pub fn judge(&mut self, frame: &[u8]) -> Result<Action, FilterFault>
-        ensures { Sound K.Kind.reading (E.Engine.view self.old.engine) (books self.old.live self.old.draft) → Turn E.Engine.rooms K.Kind.reading (Asked.judging frame.now) (E.Engine.view self.old.engine) (books self.old.live self.old.draft) (E.Engine.view self.new.engine) (books self.new.live self.new.draft) (judged_as result) }
+        ensures { Turn E.Engine.rooms K.Kind.reading (Asked.judging frame.now) (E.Engine.view self.old.engine) self.old.books (E.Engine.view self.new.engine) self.new.books (judged_as result) }
     {
-        if self.kind.bits() != self.engine.variables() {
-            return Err(FilterFault::Mismatch);
-        }
+        self.bits()?;
         let bits = self.kind.turn(frame)?;
         let blocked = self.engine.evaluate(LIVE, &bits)?;
-        if blocked {
-            Ok(Action::Block)
-        } else {
-            Ok(Action::Pass)
-        }
+        Ok(if blocked { Action::Block } else { Action::Pass })
     }
 
     // Takes the rule of this number out of the draft; rules are numbered from 1, and the gap is closed.
     pub fn withdraw(&mut self, number: usize) -> Result<(), FilterFault>
-        ensures { Sound K.Kind.reading (E.Engine.view self.old.engine) (books self.old.live self.old.draft) → Turn E.Engine.rooms K.Kind.reading (Asked.withdrawing number) (E.Engine.view self.old.engine) (books self.old.live self.old.draft) (E.Engine.view self.new.engine) (books self.new.live self.new.draft) (withdrawn_as result) }
+        ensures { Turn E.Engine.rooms K.Kind.reading (Asked.withdrawing number) (E.Engine.view self.old.engine) self.old.books (E.Engine.view self.new.engine) self.new.books (withdrawn_as result) }
     {
-        let n = self.kind.bits();
-        if n != self.engine.variables() {
-            return Err(FilterFault::Mismatch);
-        }
-        if number < 1 {
+        let n = self.bits()?;
+        if number < 1 || number > self.draft.len() {
             return Err(FilterFault::Missing);
         }
-        if number > self.draft.len() {
-            return Err(FilterFault::Missing);
-        }
-        let mut rest = self.draft;
+        let mut rest = copied(&self.draft);
         rest.remove(number - 1);
-        rebuild(&mut self.engine, rest.rules(), n)?;
+        rebuild(&mut self.engine, rest.as_slice(), n)?;
         self.draft = rest;
         Ok(())
     }
@@ -126,18 +133,14 @@ impl<K: Kind, E: DecidingEngine> Filter<K, E> {
     // Whether the two books judge every frame alike; where not, the least frame that they judge differently goes into
     // the first bytes of the place.
     pub fn compare(&mut self, place: &mut Assignment) -> Result<Comparison, FilterFault>
-        ensures turn { Sound K.Kind.reading (E.Engine.view self.old.engine) (books self.old.live self.old.draft) → Turn E.Engine.rooms K.Kind.reading (Asked.comparing place.old) (E.Engine.view self.old.engine) (books self.old.live self.old.draft) (E.Engine.view self.new.engine) (books self.new.live self.new.draft) (compared_as result place.new) }
+        ensures turn { Turn E.Engine.rooms K.Kind.reading (Asked.comparing place.old) (E.Engine.view self.old.engine) self.old.books (E.Engine.view self.new.engine) self.new.books (compared_as result place.new) }
         ensures stays { Stays result place.old place.new }
     {
-        if self.kind.bits() != self.engine.variables() {
-            return Err(FilterFault::Mismatch);
-        }
-        match least(&mut self.engine)? {
-            None => Ok(Comparison::Alike),
-            Some(bits) => {
-                self.kind.back(&bits, place);
-                Ok(Comparison::Differs)
-            }
-        }
+        self.bits()?;
+        let Some(bits) = least(&mut self.engine)? else {
+            return Ok(Comparison::Alike);
+        };
+        self.kind.back(&bits, place);
+        Ok(Comparison::Differs)
     }
 }

@@ -8,14 +8,15 @@ use text::fault::LineFault;
 use text::fields::Field;
 
 // What a rule does with the frames that it decides.
-#[derive(Clone, Copy, Debug, PartialEq, Eq)]
+#[derive(Clone, Copy, Debug, Default, PartialEq, Eq)]
 pub enum Action {
     Block,
+    #[default]
     Pass,
 }
 
 // A rule: it matches the frames that agree with its value at every bit that counts.
-#[derive(Clone, Copy, Debug, PartialEq, Eq)]
+#[derive(Clone, Copy, Debug, Default, PartialEq, Eq)]
 pub struct Rule {
     pub action: Action,
     pub value: Assignment,

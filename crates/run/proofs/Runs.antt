@@ -6,10 +6,10 @@ use Rattle.engine.specs.Does.{Rooms, View}
 use Rattle.engine.specs.Rows.{ran}
 use Rattle.kind.specs.Kinds.{Reading, Lawful}
 use Rattle.steps.specs.Steps.{wipe_steps}
-use Rattle.filter.specs.declared.answer.Answer.{Answer}
+use Rattle.filter.specs.Answers.{Answer}
 use Rattle.filter.specs.Books.{Books, no_rules}
 use Rattle.filter.specs.Calls.{Right, refusal, drawn}
-use Rattle.filter.specs.Turns.{Sound, Turn, Went}
+use Rattle.filter.specs.Turns.{Turn, Went}
 use Rattle.run.specs.declared.call.Call.{Call}
 use Rattle.run.specs.Calls.{asked}
 use Rattle.run.specs.Law.{Holds}
@@ -64,17 +64,15 @@ worked R k e b (c ∷ cs) (x ∷ xs) z (m, p, t) = (m, p, worked R k m (drawn k 
 -- one call more
 pub run_step : (R : Rooms) (k : Reading) (n : ℕ) (e₀ e e' : View R.Shape) (b b' : Books) (calls : List Call) (i : ℕ) (d : Call) (xs xs' : List Answer) (a : Answer)
     → i < length calls → xs' ≡ xs ++ (a ∷ [])
-    → e.vars ≡ n → Sound k e b → Honest k e.vars no_rules (take i calls) xs → b ≡ after_all k no_rules (take i calls) xs → Trail R k e₀ no_rules (take i calls) xs e
-    → (Sound k e b → Turn R k (asked (get_or calls i d)) e b e' b' a)
-    → (i + 1 ≤ length calls) × (e'.vars ≡ n) × Sound k e' b' × Honest k e'.vars no_rules (take (i + 1) calls) xs' × (b' ≡ after_all k no_rules (take (i + 1) calls) xs') × Trail R k e₀ no_rules (take (i + 1) calls) xs' e'
-run_step R k n e₀ e e' b b' calls i d xs xs' a lt push vars sound honest books trail turn =
-    let t = turn sound in
+    → e.vars ≡ n → Honest k e.vars no_rules (take i calls) xs → b ≡ after_all k no_rules (take i calls) xs → Trail R k e₀ no_rules (take i calls) xs e
+    → Turn R k (asked (get_or calls i d)) e b e' b' a
+    → (i + 1 ≤ length calls) × (e'.vars ≡ n) × Honest k e'.vars no_rules (take (i + 1) calls) xs' × (b' ≡ after_all k no_rules (take (i + 1) calls) xs') × Trail R k e₀ no_rules (take (i + 1) calls) xs' e'
+run_step R k n e₀ e e' b b' calls i d xs xs' a lt push vars honest books trail t =
     let call : Call = get_or calls i d in
     let more : take (i + 1) calls ≡ take i calls ++ (call ∷ []) = take_more calls i d lt in
     let right : Right k e.vars (after_all k no_rules (take i calls) xs) (asked call) a = subst (λ (x : Books). Right k e.vars x (asked call) a) books t.right in (
       omega arith,
       t.same ∙ vars,
-      t.sound,
       rw (t.same, more, push) (honest_push k e.vars no_rules (take i calls) xs call a honest right),
       t.drew ∙ ap (λ (x : Books). drawn k x (asked call) a) books ∙ sym (after_push k e.vars no_rules (take i calls) xs call a honest) ∙ rw (more, push) refl,
       rw (more, push) (trail_push R k e₀ no_rules (take i calls) xs e e' call a trail (subst (λ (x : Books). Went R (refusal k e.vars x (asked call)) k x (asked call) e e' a) books t.went)),

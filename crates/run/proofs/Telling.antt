@@ -8,8 +8,8 @@ use Rattle.kind.specs.Kinds.{Reading, Lawful}
 use Rattle.steps.specs.Meaning.{Decides as DecidesBy}
 use Rattle.search.specs.Least.{Below}
 use Rattle.search.proofs.Seeking.{judged_local}
-use Rattle.filter.specs.declared.answer.Answer.{Answer}
 use Rattle.filter.specs.declared.fault.FilterFault.{FilterFault}
+use Rattle.filter.specs.Answers.{Answer}
 use Rattle.filter.specs.Books.{Books}
 use Rattle.filter.specs.Calls as filter
 use Rattle.filter.specs.Calls.{verdict}

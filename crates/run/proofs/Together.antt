@@ -3,11 +3,13 @@ use Rattle.std.proofs.Common.{◌≡◌, ℕ, ◌≤◌, false, List, [], ◌∷
 use Rattle.engine.specs.Ops.{Agree, bit_at, spelt}
 use Rattle.engine.specs.Does.{Says}
 use Rattle.kind.specs.declared.rule.Rule.{Rule}
+use Rattle.kind.specs.declared.rule.Action.{Action}
 use Rattle.kind.specs.Kinds.{Reading, Lawful, over}
 use Rattle.search.proofs.Picks.{same_says}
-use Rattle.filter.specs.declared.answer.Answer.{Answer}
-use Rattle.filter.specs.declared.answer.Answer.TheVariants.{Added, Verdict, Differs}
+use Rattle.filter.specs.declared.answer.Reply.TheVariants.{Added, Verdict, Differs}
 use Rattle.filter.specs.declared.fault.FilterFault.{FilterFault}
+use Rattle.filter.specs.declared.answer.Added.{Added as Done}
+use Rattle.filter.specs.Answers.{Answer}
 use Rattle.filter.specs.Books.{Books}
 use Rattle.filter.specs.Calls.{refusal, drawn, verdict, no_room}
 use Rattle.run.specs.declared.call.Call.{Call}
@@ -41,7 +43,7 @@ module _ (k : Reading) (law : Lawful k) where
       let idle : p.told.idle ≡ q.told.idle = same_says p.told.idle q.told.idle (P q.rule) (subst (λ (r : Rule). Says p.told.idle (P r)) rule p.idle) q.idle in
       let place : p.told.number ≡ q.told.number = p.place ∙ sym q.place in
       let told : p.told ≡ q.told = λ j. record { number = place j; idle = idle j } in
-      p.answer ∙ ap Added told ∙ sym q.answer
+      p.answer ∙ ap (λ (x : Done). Ok (Added x)) told ∙ sym q.answer
   same_told b (Add line) a z (inl p) (inr q) u v = absurd (lacking z q v)
   same_told b (Add line) a z (inr p) q u v = absurd (lacking a p u)
   same_told b (Withdraw i) a z (inl p) (inl q) u v = p ∙ sym q
@@ -51,12 +53,12 @@ module _ (k : Reading) (law : Lawful k) where
   same_told b (Judge frame) a z p q u v =
       let bits : p.bits ≡ q.bits = same_ok (k.turns frame.now) p.bits q.bits p.turned q.turned in
       let action : p.action ≡ q.action = judges_only k.bits b.live (bit_at p.bits) p.action p.judged ∙ ap (λ (s : List ℕ). verdict k.bits b.live (bit_at s)) bits ∙ sym (judges_only k.bits b.live (bit_at q.bits) q.action q.judged) in
-      p.answer ∙ ap Verdict action ∙ sym q.answer
+      p.answer ∙ ap (λ (x : Action). Ok (Verdict x)) action ∙ sym q.answer
   same_told b Compare a z (inl p) (inl q) u v = p.answer ∙ sym q.answer
   same_told b Compare a z (inl p) (inr (inl q)) u v = absurd (q.differs (p.same q.frame q.bits q.taken))
   same_told b Compare a z (inl p) (inr (inr q)) u v = absurd (lacking z q v)
   same_told b Compare a z (inr (inl p)) (inl q) u v = absurd (p.differs (q.same p.frame p.bits p.taken))
-  same_told b Compare a z (inr (inl p)) (inr (inl q)) u v = p.answer ∙ ap (λ (f : List ℕ). Differs (over f (replicate 18 0))) (same_frame b a z p q) ∙ sym q.answer
+  same_told b Compare a z (inr (inl p)) (inr (inl q)) u v = p.answer ∙ ap (λ (f : List ℕ). Ok (Differs (over f (replicate 18 0)))) (same_frame b a z p q) ∙ sym q.answer
   same_told b Compare a z (inr (inl p)) (inr (inr q)) u v = absurd (lacking z q v)
   same_told b Compare a z (inr (inr p)) q u v = absurd (lacking a p u)
 

@@ -1,5 +1,5 @@
 -- The law over whole runs of calls, in the words of rules, books and frames.
-use Rattle.std.specs.Prelude.{◌≡◌, ℕ, zero, suc, ◌+◌, ◌≤◌, Bool, true, false, ◌⊎◌, List, [], ◌∷◌, ◌++◌, length, replicate, Some, None, Ok, Option}
+use Rattle.std.specs.Prelude.{◌≡◌, ℕ, zero, suc, ◌+◌, ◌≤◌, Bool, true, false, ◌⊎◌, List, [], ◌∷◌, ◌++◌, length, replicate, Some, None, Ok, Err, Option}
 use Rattle.engine.specs.declared.fault.EngineFault.TheVariants as engine
 use Rattle.engine.specs.Ops.{Bits, bit_at, spelt}
 use Rattle.engine.specs.Does.{Says}
@@ -9,10 +9,10 @@ use Rattle.kind.specs.declared.rule.Action.TheVariants.{Pass}
 use Rattle.kind.specs.Kinds.{Reading, Bytes, over}
 use Rattle.kind.specs.Rules.{Matches}
 use Rattle.filter.specs.declared.answer.Added.{Added as Done}
-use Rattle.filter.specs.declared.answer.Answer.{Answer}
-use Rattle.filter.specs.declared.answer.Answer.TheVariants.{Added, Committed, Verdict, Withdrawn, Alike, Differs, Refused}
+use Rattle.filter.specs.declared.answer.Reply.TheVariants.{Added, Committed, Verdict, Withdrawn, Alike, Differs}
 use Rattle.filter.specs.declared.fault.FilterFault.{FilterFault}
 use Rattle.filter.specs.declared.fault.FilterFault.TheVariants as fault
+use Rattle.filter.specs.Answers.{Answer}
 use Rattle.filter.specs.Books.{Books}
 use Rattle.filter.specs.Calls.{refusal, drawn, no_room}
 use Rattle.run.specs.declared.call.Call.{Call}
@@ -47,7 +47,7 @@ pub record Adds (k : Reading) (b : Books) (line : List ℕ) (a : Answer) : Type 
   pub rule : Rule
   pub read : k.reads line ≡ Ok rule
   pub told : Done
-  pub answer : a ≡ Added told
+  pub answer : a ≡ Ok (Added told)
   pub place : told.number ≡ length b.draft + 1
   pub idle : Says told.idle ((f t : List ℕ) → Frame k f t → Decides k.bits (b.draft ++ (rule ∷ [])) (length b.draft) (bit_at t) → ⊥)
 
@@ -57,12 +57,12 @@ pub record Decided (k : Reading) (b : Books) (frame : List ℕ) (a : Answer) : T
   pub turned : k.turns frame ≡ Ok bits
   pub action : Action
   pub judged : Judges k.bits b.live (bit_at bits) action
-  pub answer : a ≡ Verdict action
+  pub answer : a ≡ Ok (Verdict action)
 
 -- a compare says alike where both books judge every frame alike
 pub record Agrees (k : Reading) (b : Books) (a : Answer) : Type 0 where
   pub same : (f t : List ℕ) → Frame k f t → SameAt k.bits b (bit_at t)
-  pub answer : a ≡ Alike
+  pub answer : a ≡ Ok Alike
 
 -- otherwise it shows a frame that they judge differently, and no frame with a smaller number, its bits read with bit 1 highest, is judged differently
 pub record Shows (k : Reading) (b : Books) (a : Answer) : Type 0 where
@@ -71,19 +71,19 @@ pub record Shows (k : Reading) (b : Books) (a : Answer) : Type 0 where
   pub taken : Frame k frame bits
   pub differs : SameAt k.bits b (bit_at bits) → ⊥
   pub least : (f t : List ℕ) → Frame k f t → (SameAt k.bits b (bit_at t) → ⊥) → spelt k.bits (bit_at bits) ≤ spelt k.bits (bit_at t)
-  pub answer : a ≡ Differs (over frame (replicate 18 0))
+  pub answer : a ≡ Ok (Differs (over frame (replicate 18 0)))
 
 -- what a call that is not refused beforehand is answered; only the room is left open by the books
 abbrev pub Told : Reading → Books → Call → Answer → Type 0
 Told k b (Add line) a = Adds k b line.now a ⊎ (a ≡ no_room)
-Told k b (Withdraw i) a = (a ≡ Withdrawn) ⊎ (a ≡ no_room)
-Told k b Commit a = a ≡ Committed
+Told k b (Withdraw i) a = (a ≡ Ok Withdrawn) ⊎ (a ≡ no_room)
+Told k b Commit a = a ≡ Ok Committed
 Told k b (Judge frame) a = Decided k b frame.now a
 Told k b Compare a = Agrees k b a ⊎ (Shows k b a ⊎ (a ≡ no_room))
 
 -- the defined refusal, with its place, or the answer
 abbrev pub Answers : Option FilterFault → Reading → Books → Call → Answer → Type 0
-Answers (Some f) k b c a = a ≡ Refused f
+Answers (Some f) k b c a = a ≡ Err f
 Answers None k b c a = Told k b c a
 
 -- a run of calls and its answers, from the books b: each is right for the books that the calls before it left; n is the engine's number of variables
@@ -106,13 +106,8 @@ wants fault.Missing = false
 
 -- the answer tells of no room
 abbrev pub lacks : Answer → Bool
-lacks (Added x) = false
-lacks Committed = false
-lacks (Verdict x) = false
-lacks Withdrawn = false
-lacks Alike = false
-lacks (Differs p) = false
-lacks (Refused f) = wants f
+lacks (Ok x) = false
+lacks (Err f) = wants f
 
 -- the same answers up to the first call at which either tells of no room
 abbrev pub Together : List Answer → List Answer → Type 0

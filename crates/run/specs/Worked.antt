@@ -4,7 +4,7 @@ use Rattle.engine.specs.Does.{Rooms, View}
 use Rattle.engine.specs.Rows.{ran}
 use Rattle.kind.specs.Kinds.{Reading}
 use Rattle.steps.specs.Steps.{wipe_steps}
-use Rattle.filter.specs.declared.answer.Answer.{Answer}
+use Rattle.filter.specs.Answers.{Answer}
 use Rattle.filter.specs.Books.{Books}
 use Rattle.filter.specs.Calls.{refusal, drawn}
 use Rattle.filter.specs.Turns.{Went}

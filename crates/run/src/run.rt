@@ -24,8 +24,7 @@ pub fn run<K: Kind + Drop, E: DecidingEngine + Drop>(
     let mut filter = Filter::new(kind, engine);
     let mut answers = Vec::new(heap);
     for call in calls {
-        let answer = perform(&mut filter, call);
-        answers.push(answer)?;
+        answers.push(perform(&mut filter, call))?;
     }
     Ok(answers)
 }
@@ -46,8 +45,6 @@ pub fn run_both<K: Kind + Copy, E: DecidingEngine + Drop, F: DecidingEngine + Dr
 }
 
 // Every frame is judged in just one way.
-pub fn judging_stands() -> u8
+pub fn judging_stands()
     ensures { JudgedOnce }
-{
-    0
-}
+{}

@@ -1,16 +1,26 @@
 use Rattle.std.proofs.Common.{sym, refl, rules}
 use Rattle.std.proofs.lemmas.Result.{err_from_is_err_and}
-use Rattle.filter.proofs.Turning.{add_full, add_refused, add_kept}
+use Rattle.steps.proofs.Adding.{admits_ok, admits_err}
+use Rattle.filter.proofs.Turning.{fits, add_refused, add_kept}
 use Rattle.filter.proofs.filter.Filter.add.Goals as goal
 
-pub returns-then-count-ge-BOOK_MAX : goal.returns-then-count-ge-BOOK_MAX
-returns-then-count-ge-BOOK_MAX g c = add_full g.E.Engine.rooms g.K.Kind.reading c.args.line.now c.in_ok-rule.rule _ _ (search rules) (sym c.in_ok-rule.ensures) (search rules)
+pub invariant_of-self : goal.invariant_of-self
+invariant_of-self g c =
+    let f = fits g.K.Kind.reading _ _ (rw (← c.self.view_is) at c.in_ok-n.ensures) in
+    (admits_err g.E.Engine.rooms _ _ _ _ _ _ c.self.invariant _ (sym f.1) (rw f.0 at c.in_err-idle.ensures)).2
 
 pub returns-in_err-idle : goal.returns-in_err-idle
-returns-in_err-idle g c s =
+returns-in_err-idle g c =
+    let f = fits g.K.Kind.reading _ _ (rw (← c.self.view_is) at c.in_ok-n.ensures) in
     let p = err_from_is_err_and c.from_residual-in_err-idle.result c.from_residual-in_err-idle.ensures.1 in
-    rw (p.1, p.2) (add_refused g.E.Engine.rooms g.K.Kind.reading c.args.line.now c.in_ok-rule.rule _ _ _ _ (search rules) (sym c.in_ok-rule.ensures) (search rules) (rw c.bits-n.ensures at c.in_err-idle.ensures) s)
+    rw (p.1, p.2, ← c.self.view_is) (add_refused g.E.Engine.rooms g.K.Kind.reading c.args.line.now c.in_ok-rule.rule _ _ _ _ f.1 (sym c.in_ok-rule.ensures) (search rules) (rw f.0 at c.in_err-idle.ensures) c.self.invariant)
+
+pub invariant_of-self-2 : goal.invariant_of-self-2
+invariant_of-self-2 g c =
+    let f = fits g.K.Kind.reading _ _ (rw (← c.self.view_is) at c.in_ok-n.ensures) in
+    rw c.push.ensures.items (admits_ok g.E.Engine.rooms _ _ _ _ _ _ c.self.invariant _ (rw f.0 at c.in_ok-idle.ensures)).1
 
 pub returns : goal.returns
-returns g c s =
-    add_kept g.E.Engine.rooms g.K.Kind.reading c.args.line.now c.in_ok-rule.rule _ _ _ _ _ (search rules) (sym c.in_ok-rule.ensures) (search rules) (rw c.bits-n.ensures at c.in_ok-idle.ensures) (search rules) refl c.push.ensures s
+returns g c =
+    let f = fits g.K.Kind.reading _ _ (rw (← c.self.view_is) at c.in_ok-n.ensures) in
+    rw (← c.self.view_is) (add_kept g.E.Engine.rooms g.K.Kind.reading c.args.line.now c.in_ok-rule.rule _ _ _ _ _ f.1 (sym c.in_ok-rule.ensures) (search rules) (rw f.0 at c.in_ok-idle.ensures) (search rules) refl c.push.ensures.items c.self.invariant)
