@@ -2,7 +2,7 @@ ghost use Rattle.std.specs.Prelude.{◌≡◌};
 ghost use Rattle.text.specs.Faults.{line_number, line_place};
 
 // What is wrong with a rule line as a whole; places are counted in bytes from 0.
-#[derive(Clone, Copy)]
+#[derive(Clone, Copy, Debug, PartialEq, Eq)]
 pub enum LineFault {
     // empty, or over 80 bytes
     Length,
@@ -30,8 +30,7 @@ impl LineFault {
     {
         match self {
             LineFault::Length => 0,
-            LineFault::Fields(at) => at,
-            LineFault::Action(at) => at,
+            LineFault::Fields(at) | LineFault::Action(at) => at,
         }
     }
 }

@@ -2,6 +2,7 @@
 
 #![tactic(auto)]
 
+pub mod digits;
 pub mod fault;
 pub mod fields;
 pub mod hex;
