@@ -5,7 +5,6 @@ ghost use Rattle.kind.specs.Rules.{blocks, Matching};
 use engine::assignment::Assignment;
 use text::fault::LineFault;
 use text::fields::Field;
-use text::word::is_word;
 
 // The word for a rule that blocks.
 pub const BLOCK: &[u8] = b"block";
@@ -34,12 +33,10 @@ impl Action {
     pub fn read(field: Field<'_>) -> Result<Action, LineFault>
         ensures { result ≡ action_of field.entry.text.now field.entry.place }
     {
-        if is_word(field.text, BLOCK) {
-            Ok(Action::Block)
-        } else if is_word(field.text, PASS) {
-            Ok(Action::Pass)
-        } else {
-            Err(LineFault::Action(field.place))
+        match field.text {
+            BLOCK => Ok(Action::Block),
+            PASS => Ok(Action::Pass),
+            _ => Err(LineFault::Action(field.place)),
         }
     }
 

@@ -1,5 +1,5 @@
 -- The first empty field.
-use Rattle.std.proofs.Common.{◌≡◌, Bool, true, false, cond, eqb, List, [], ◌∷◌, length, find, ◌==◌, Some, None, Option, refl}
+use Rattle.std.proofs.Common.{◌≡◌, true, false, cond, eqb, List, [], ◌∷◌, length, find, ◌==◌, Some, refl}
 use Rattle.std.specs.Option.{option_map}
 use Rattle.text.specs.Split.{Part}
 use Rattle.text.specs.Lines.{first_empty}

@@ -1,5 +1,7 @@
-ghost use Rattle.std.specs.Prelude.{◌≡◌, ℕ};
+ghost use Rattle.std.specs.Prelude.{◌≡◌, ℕ, ◌<◌, Option, Some};
 ghost use Rattle.std.specs.Option.{option_map};
+ghost use Rattle.std.proofs.Common.{arith};
+ghost use Rattle.std.proofs.lemmas.Bool.Decides.{nat_tests};
 ghost use Rattle.text.specs.Hexadecimal.{hex_digit};
 ghost use Rattle.text.specs.Numerals.{dec_digit_of, number_after, capped};
 
@@ -8,6 +10,7 @@ use crate::hex;
 // The digits of a base.
 pub trait Digits {
     ghost BASE: { ℕ };
+
     ghost value: { ℕ → Option ℕ };
 
     const BASE: usize;
@@ -15,6 +18,10 @@ pub trait Digits {
     // The value of a digit.
     fn digit(c: u8) -> Option<u8>
         ensures { result ≡ value c };
+
+    ghost positive: { 0 < BASE };
+
+    ghost below: { (c d : ℕ) → value c ≡ Some d → d < BASE };
 }
 
 // The digits `0` to `9`.
@@ -22,7 +29,12 @@ pub struct DecimalDigits;
 
 impl Digits for DecimalDigits {
     ghost BASE = { 10 };
+
     ghost value = { dec_digit_of };
+
+    ghost positive = { Prim.omega arith };
+
+    ghost below = { λ c d e. Prim.grind (arith, nat_tests) };
 
     const BASE: usize = 10;
 
@@ -39,7 +51,12 @@ pub struct HexDigits;
 
 impl Digits for HexDigits {
     ghost BASE = { 16 };
+
     ghost value = { hex_digit };
+
+    ghost positive = { Prim.omega arith };
+
+    ghost below = { λ c d e. Prim.grind (arith, nat_tests) };
 
     const BASE: usize = 16;
 
@@ -52,8 +69,12 @@ impl Digits for HexDigits {
 pub fn number<D: Digits>(text: &[u8]) -> Option<usize>
     ensures { result ≡ option_map capped (number_after D.value D.BASE 0 text.now) }
 {
-    text.iter().try_fold(0usize, |value, c| {
+    let mut value: usize = 0;
+    for c in text {
         let digit = D::digit(*c)?;
-        Some(value.saturating_mul(D::BASE).saturating_add(usize::from(digit)))
-    })
+        value = value
+            .saturating_mul(D::BASE)
+            .saturating_add(usize::from(digit));
+    }
+    Some(value)
 }

@@ -9,4 +9,3 @@ pub mod hex;
 pub mod line;
 pub mod numerals;
 pub mod split;
-pub mod word;
