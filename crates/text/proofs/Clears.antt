@@ -1,6 +1,7 @@
 -- Texts without a byte, and texts that are cut at one.
-use Rattle.std.proofs.Common.{◌≡◌, ℕ, suc, ◌+◌, ◌<◌, Bool, true, false, cond, eqb, List, [], ◌∷◌, ◌++◌, length, take, drop, None, sym, refl, ap, ◌∙◌, arith}
+use Rattle.std.proofs.Common.{◌≡◌, ℕ, suc, ◌+◌, ◌<◌, false, eqb, List, [], ◌∷◌, ◌++◌, length, get_or, take, drop, None, sym, refl, ap, ◌∙◌, arith, add-one}
 use Rattle.std.proofs.lemmas.Bool.{eq-eqb, ne_eqb, eqb-true}
+use Rattle.std.proofs.lemmas.List.Sums.{split_at_first, passes_at_first}
 use Rattle.text.specs.Hexadecimal.{hex_digit}
 use Rattle.text.specs.Split.{before, split}
 use Rattle.text.specs.Written.{HexDigit, Digits, none, more, Group}
@@ -35,17 +36,14 @@ split_first c p (x ∷ xs) ts h =
 
 pub before_none : (c : ℕ) (t : List ℕ) → Without c t → before c t ≡ length t
 before_none c [] h = refl
-before_none c (x ∷ xs) h = rw (h.0, before_none c xs h.1) refl
+before_none c (x ∷ xs) h = let e = before_none c xs h.1 in rw h.0 (omega arith)
 
 pub before_first : (c : ℕ) (t ts : List ℕ) → Without c t → before c (t ++ (c ∷ ts)) ≡ length t
 before_first c [] ts h = rw (eq-eqb c c refl) refl
-before_first c (x ∷ xs) ts h = rw (h.0, before_first c xs ts h.1) refl
+before_first c (x ∷ xs) ts h = let e = before_first c xs ts h.1 in rw h.0 (omega arith)
 
 -- a text is what stands before the first c, that c, and the rest
 pub cut_at : (c : ℕ) (t : List ℕ) → before c t < length t → take (before c t) t ++ (c ∷ drop (suc (before c t)) t) ≡ t
-cut_at c [] h = absurd (omega arith)
-cut_at c (x ∷ xs) h = go (eqb x c) refl h (λ l. cut_at c xs l)
-  where
-    go : (b : Bool) → eqb x c ≡ b → cond b 0 (suc (before c xs)) < suc (length xs) → (before c xs < length xs → take (before c xs) xs ++ (c ∷ drop (suc (before c xs)) xs) ≡ xs) → take (cond b 0 (suc (before c xs))) (x ∷ xs) ++ (c ∷ drop (suc (cond b 0 (suc (before c xs)))) (x ∷ xs)) ≡ x ∷ xs
-    go true e l f = ap (λ n. n ∷ xs) (sym (eqb-true x c e))
-    go false e l f = ap (λ ys. x ∷ ys) (f (omega arith))
+cut_at c t h =
+    let e : get_or t (before c t) 0 ≡ c = eqb-true _ _ (passes_at_first (λ x. eqb x c) t 0 h) in
+    sym (split_at_first (λ x. eqb x c) t 0 h ∙ rw (e, add-one) refl)

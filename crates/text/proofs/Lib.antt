@@ -3,4 +3,4 @@ pub mod Decoding
 pub mod Numbers
 pub mod Spelled
 pub mod Clears
-mod SameWord
+mod Empty

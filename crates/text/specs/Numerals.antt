@@ -1,5 +1,5 @@
 -- Numbers as text: a group of hexadecimal digits, and a decimal number.
-use Rattle.std.specs.Prelude.{ℕ, ◌+◌, ◌-◌, ◌*◌, Bool, false, cond, ◌&&◌, List, [], ◌∷◌, length, Some, None, Option, ◌==◌, nat_le, nat_lt}
+use Rattle.std.specs.Prelude.{ℕ, ◌+◌, ◌-◌, ◌*◌, ◌^◌, min, Bool, false, cond, ◌&&◌, List, [], ◌∷◌, length, Some, None, Option, ◌==◌, nat_le, nat_lt}
 use Rattle.text.specs.Hexadecimal.{hex_digit}
 
 -- the value of a decimal digit
@@ -10,6 +10,10 @@ dec_digit_of c = cond (nat_le 48 c && nat_le c 57) (Some (c - 48)) None
 abbrev pub number_after : (ℕ → Option ℕ) → ℕ → ℕ → List ℕ → Option ℕ
 number_after digit base v [] = Some v
 number_after digit base v (c ∷ cs) = elim (digit c) [ Some d ↦ number_after digit base (v * base + d) cs | None ↦ None ]
+
+-- a number, or the largest of the machine
+abbrev pub capped : ℕ → ℕ
+capped v = min v (2 ^ 64 - 1)
 
 -- the text has 1 to n bytes
 abbrev pub sized : ℕ → List ℕ → Bool

@@ -1,5 +1,6 @@
 -- Text split at a byte, each part with its place.
-use Rattle.std.specs.Prelude.{ℕ, suc, ◌+◌, cond, List, [], ◌∷◌, drop, ◌==◌}
+use Rattle.std.specs.Prelude.{ℕ, ◌+◌, cond, Option, Some, None, List, [], ◌∷◌, ◌==◌, position}
+use Rattle.std.specs.List.{position_or_len}
 use Rattle.text.specs.declared.fields.Field.{Field}
 use Rattle.text.specs.declared.fields.Reader.{Reader}
 
@@ -8,10 +9,13 @@ pub record Part : Type 0 where
   pub place : ℕ
   pub text : List ℕ
 
--- how many bytes stand before the first c
+-- how many bytes stand before the first c; all of them where there is none
 abbrev pub before : ℕ → List ℕ → ℕ
-before c [] = 0
-before c (x ∷ xs) = cond (x == c) 0 (suc (before c xs))
+before c text = position_or_len (λ x. x == c) text
+
+-- the place of the first c, where there is one
+abbrev pub place_of : ℕ → List ℕ → Option ℕ
+place_of c text = position (λ x. x == c) text
 
 -- the first part begins at p, with one byte more in front
 abbrev pub grow : ℕ → ℕ → List Part → List Part
@@ -29,4 +33,4 @@ part f = record { place = f.place; text = f.text.now }
 
 -- the parts that a reader has yet to give
 abbrev pub left : Reader → List Part
-left r = cond r.done [] (split r.sep (r.base + r.at) (drop r.at r.text.now))
+left r = elim r.rest [ Some t ↦ split r.sep r.place t.now | None ↦ [] ]

@@ -30,8 +30,7 @@ impl LineFault {
     {
         match self {
             LineFault::Length => 0,
-            LineFault::Fields(at) => at,
-            LineFault::Action(at) => at,
+            LineFault::Fields(at) | LineFault::Action(at) => at,
         }
     }
 }

@@ -1,24 +1,21 @@
-ghost use Rattle.std.specs.Prelude.{◌+◌, ◌^◌, ◌<◌, ◌≤◌, length};
+ghost use Rattle.std.specs.Prelude.{◌+◌, ◌^◌, ◌<◌, length};
+ghost use Rattle.std.specs.Option.{ForSome};
 
 // A part of a text, and the index of its first byte in the rule line.
-#[derive(Clone, Copy)]
+#[derive(Clone, Copy, Debug, PartialEq, Eq)]
 pub struct Field<'a> {
     pub text: &'a [u8],
     pub place: usize,
 }
 
-// A text that is split at a byte, and how far its fields have been read.
+// The fields of a text that is split at a byte, as an iterator.
 #[derive(Drop)]
 pub struct Reader<'a> {
-    pub(crate) text: &'a [u8],
-    // the index of the text's first byte in the rule line
-    pub(crate) base: usize,
+    // the text from the next field on; none after the last
+    pub(crate) rest: Option<&'a [u8]>,
+    // the index of the next field's first byte in the rule line
+    pub(crate) place: usize,
     // the byte between two fields
     pub(crate) sep: u8,
-    // the index of the next field's first byte in the text
-    pub(crate) at: usize,
-    // the last field has been read
-    pub(crate) done: bool,
-    ghost within: { at ≤ length text.now },
-    ghost room: { base + length text.now < 2 ^ 64 },
+    ghost room: { ForSome rest (λ t. place + length t.now < 2 ^ 64) },
 }

@@ -20,13 +20,7 @@ pub fn digit(c: u8) -> Option<u8>
 fn byte(high: u8, low: u8) -> Option<u8>
     ensures { result ≡ hex_pair (hex_digit high) (hex_digit low) }
 {
-    let Some(h) = digit(high) else {
-        return None;
-    };
-    let Some(l) = digit(low) else {
-        return None;
-    };
-    Some(h * 16 + l)
+    Some(digit(high)? * 16 + digit(low)?)
 }
 
 // The bytes of a text of pairs of hexadecimal digits; none for a lone digit or a byte that is no digit.
@@ -42,11 +36,7 @@ pub fn decode(heap: Global, text: &[u8]) -> Result<Option<Vec<u8>>, AllocError>
         bytes.push(b)?;
         rest = tail;
     }
-    if rest.is_empty() {
-        Ok(Some(bytes))
-    } else {
-        Ok(None)
-    }
+    Ok(rest.is_empty().then_some(bytes))
 }
 
 // The lower-case hexadecimal digit of the low four bits.

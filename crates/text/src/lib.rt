@@ -2,10 +2,10 @@
 
 #![tactic(auto)]
 
+pub mod digits;
 pub mod fault;
 pub mod fields;
 pub mod hex;
 pub mod line;
 pub mod numerals;
 pub mod split;
-pub mod word;

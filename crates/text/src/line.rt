@@ -12,7 +12,7 @@ pub const LINE_MAX: usize = 80;
 const SPACE: u8 = b' ';
 
 // The two or three fields of a rule line.
-#[derive(Clone, Copy)]
+#[derive(Clone, Copy, Debug, PartialEq, Eq)]
 pub struct Fields<'a> {
     pub action: Field<'a>,
     pub second: Field<'a>,
@@ -23,28 +23,20 @@ pub struct Fields<'a> {
 fn empty_field(line: &[u8]) -> Option<usize>
     ensures { result ≡ first_empty (split 32 0 line.now) }
 {
-    let mut reader = Reader::new(line, SPACE);
-    while let Some(field) = reader.next_field() {
-        if field.text.is_empty() {
-            return Some(field.place);
-        }
-    }
-    None
+    Reader::new(line, SPACE)
+        .find(|field| field.text.is_empty())
+        .map(|field| field.place)
 }
 
 // The fields of a line, if there are two or three.
 fn two_or_three(line: &[u8]) -> Result<Fields<'_>, LineFault>
     ensures { shown result ≡ two_or_three_of (length line.now) (split 32 0 line.now) }
 {
-    let mut reader = Reader::new(line, SPACE);
-    let Some(action) = reader.next_field() else {
-        return Err(LineFault::Fields(line.len()));
-    };
-    let Some(second) = reader.next_field() else {
-        return Err(LineFault::Fields(line.len()));
-    };
-    let third = reader.next_field();
-    if let Some(surplus) = reader.next_field() {
+    let mut fields = Reader::new(line, SPACE);
+    let action = fields.next().ok_or(LineFault::Fields(line.len()))?;
+    let second = fields.next().ok_or(LineFault::Fields(line.len()))?;
+    let third = fields.next();
+    if let Some(surplus) = fields.next() {
         return Err(LineFault::Fields(surplus.place));
     }
     Ok(Fields {

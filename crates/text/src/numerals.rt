@@ -1,9 +1,8 @@
-ghost use Rattle.std.specs.Prelude.{◌≡◌, ◌≤◌, length};
-ghost use Rattle.text.specs.Hexadecimal.{hex_digit};
-ghost use Rattle.text.specs.Numerals.{dec_digit_of, number_after, group, padded, decimal};
+ghost use Rattle.std.specs.Prelude.{◌≡◌, ◌^◌, ◌<◌, IfSome};
+ghost use Rattle.text.specs.Numerals.{number_of, group, padded, decimal};
 ghost use Rattle.text.specs.Written.{Group, Decimal, Reads};
 
-use crate::hex::digit;
+use crate::digits::{DecimalDigits, Digits, HexDigits, number};
 
 // The most digits of a group.
 const GROUP_MAX: usize = 4;
@@ -11,19 +10,16 @@ const GROUP_MAX: usize = 4;
 // The most digits of a decimal number.
 const DECIMAL_MAX: usize = 5;
 
-// The number that hexadecimal digits write.
-fn hex_number(text: &[u8]) -> Option<u16>
-    requires { length text.now ≤ 4 }
-    ensures { result ≡ number_after hex_digit 16 0 text.now }
+// The number of a text of 1 to `most` digits.
+fn sized_number<D: Digits>(text: &[u8], most: usize) -> Option<usize>
+    requires { D.BASE ^ most < 2 ^ 64 }
+    ensures is { result ≡ number_of D.value D.BASE most text.now }
+    ensures within { IfSome result (λ v. v < D.BASE ^ most) }
 {
-    let mut value: u16 = 0;
-    for b in text {
-        let Some(d) = digit(*b) else {
-            return None;
-        };
-        value = value * 16 + d as u16;
+    if text.is_empty() || text.len() > most {
+        return None;
     }
-    Some(value)
+    number::<D>(text)
 }
 
 // The value of a group: one to four hexadecimal digits in either case.
@@ -31,45 +27,14 @@ pub fn read_group(text: &[u8]) -> Option<u16>
     ensures value { result ≡ group text.now }
     ensures grammar { Reads result (Group text.now) }
 {
-    if text.is_empty() || text.len() > GROUP_MAX {
-        return None;
-    }
-    hex_number(text)
-}
-
-// The value of a decimal digit.
-fn dec_digit(c: u8) -> Option<u8>
-    ensures { result ≡ dec_digit_of c }
-{
-    match c as char {
-        '0'..='9' => Some(c - b'0'),
-        _ => None,
-    }
-}
-
-// The number that decimal digits write.
-fn dec_number(text: &[u8]) -> Option<u32>
-    requires { length text.now ≤ 5 }
-    ensures { result ≡ number_after dec_digit_of 10 0 text.now }
-{
-    let mut value: u32 = 0;
-    for b in text {
-        let Some(d) = dec_digit(*b) else {
-            return None;
-        };
-        value = value * 10 + d as u32;
-    }
-    Some(value)
+    sized_number::<HexDigits>(text, GROUP_MAX).map(|value| value as u16)
 }
 
 // Whether a zero stands before another byte.
 fn is_padded(text: &[u8]) -> bool
     ensures { result ≡ padded text.now }
 {
-    match text {
-        [b'0', _, ..] => true,
-        _ => false,
-    }
+    matches!(text, [b'0', _, ..])
 }
 
 // The value of a decimal number: one to five digits, with no leading zero but 0 itself.
@@ -77,10 +42,10 @@ pub fn read_decimal(text: &[u8]) -> Option<u32>
     ensures value { result ≡ decimal text.now }
     ensures grammar { Reads result (Decimal text.now) }
 {
-    if text.is_empty() || text.len() > DECIMAL_MAX || is_padded(text) {
+    if is_padded(text) {
         return None;
     }
-    dec_number(text)
+    sized_number::<DecimalDigits>(text, DECIMAL_MAX).map(|value| value as u32)
 }
 
 #[cfg(test)]

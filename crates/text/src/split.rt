@@ -1,30 +1,22 @@
-ghost use Rattle.std.specs.Prelude.{◌≡◌, ◌≤◌, [], ◌∷◌, length, drop, MatchOption};
-ghost use Rattle.text.specs.Split.{before, split, left, part};
+ghost use Rattle.std.specs.Prelude.{◌≡◌, ◌<◌, length, drop, IfSome};
+ghost use Rattle.std.specs.Iterator.{YieldsFirstBy, item_count};
+ghost use Rattle.text.specs.Split.{place_of, split, left, part};
 
 use crate::fields::{Field, Reader};
 
-// How many bytes stand before the first `c`; all of them where there is none.
-pub fn before_byte(text: &[u8], c: u8) -> usize
-    ensures is { result ≡ before c text.now }
-    ensures within { result ≤ length text.now }
+// The index of the first `c`.
+pub fn find_byte(text: &[u8], c: u8) -> Option<usize>
+    ensures is { result ≡ place_of c text.now }
+    ensures within { IfSome result (λ i. i < length text.now) }
 {
-    for (i, b) in text.iter().enumerate() {
-        if *b == c {
-            return i;
-        }
-    }
-    text.len()
+    text.iter().position(|b| *b == c)
 }
 
 // The text from `start` on; nothing where it ends before.
 fn after(text: &[u8], start: usize) -> &[u8]
     ensures { result.now ≡ drop start text.now }
 {
-    if start < text.len() {
-        &text[start..]
-    } else {
-        &text[text.len()..]
-    }
+    text.get(start..).unwrap_or_default()
 }
 
 impl<'a> Reader<'a> {
@@ -40,31 +32,32 @@ impl<'a> Reader<'a> {
         ensures { left result ≡ split sep start (drop start text.now) }
     {
         Reader {
-            text: after(text, start),
-            base: start,
+            rest: Some(after(text, start)),
+            place: start,
             sep,
-            at: 0,
-            done: false,
         }
     }
+}
 
-    // The next field, or none after the last.
-    pub fn next_field(&mut self) -> Option<Field<'a>>
-        ensures { MatchOption result ((left self.old ≡ []) × (left self.new ≡ [])) (λ f. left self.old ≡ part f ∷ left self.new) }
-    {
-        if self.done {
-            return None;
-        }
-        let at = self.at;
-        let place = self.base + at;
-        let rest = &self.text[at..];
-        let n = before_byte(rest, self.sep);
-        let text = &rest[0..n];
-        if n < rest.len() {
-            self.at = at + n + 1;
-        } else {
-            self.done = true;
-        }
-        Some(Field { text, place })
+impl<'a> Iterator for Reader<'a> {
+    type Item = Field<'a>;
+
+    ghost next_gives = { YieldsFirstBy part left };
+
+    ghost remaining = { item_count left };
+
+    fn next(&mut self) -> Option<Field<'a>> {
+        let rest = self.rest?;
+        let place = self.place;
+        let Some(n) = find_byte(rest, self.sep) else {
+            self.rest = None;
+            return Some(Field { text: rest, place });
+        };
+        self.rest = Some(&rest[n + 1..]);
+        self.place = place + n + 1;
+        Some(Field {
+            text: &rest[..n],
+            place,
+        })
     }
 }
