@@ -1,3 +1,4 @@
+pub mod Registers
 pub mod Rows
 pub mod Adding
 pub mod Rebuilding

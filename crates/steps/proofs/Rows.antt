@@ -1,5 +1,5 @@
 -- The rows of an add, put together.
-use Rattle.std.proofs.Common.{◌≡◌, ℕ, zero, suc, ◌-◌, ◌<◌, Bool, true, false, List, [], ◌∷◌, Ok, Err, Result, sym, ap, ◌∙◌, arith}
+use Rattle.std.proofs.Common.{◌≡◌, ℕ, zero, suc, ◌+◌, ◌-◌, ◌<◌, Bool, true, false, List, [], ◌∷◌, length, get_or, drop, Ok, Err, Result, sym, refl, ap, ◌∙◌, add-one, arith, drop-cons}
 use Rattle.engine.specs.declared.fault.EngineFault.{EngineFault}
 use Rattle.engine.specs.Ops.{Op, regs_in}
 use Rattle.engine.specs.Does.{Rooms, View, Tests}
@@ -8,12 +8,18 @@ use Rattle.engine.proofs.Rows.{row, next, stop, retell, told_value}
 use Rattle.kind.specs.declared.rule.Rule.{Rule}
 use Rattle.kind.specs.Rules.{blocks}
 use Rattle.steps.specs.declared.scratch.Scratch.{Scratch}
-use Rattle.steps.specs.Steps.{bit_steps, bits_steps, join_steps, keep_steps, find_steps, work_steps}
+use Rattle.steps.specs.Steps.{scratch, bit_steps, bits_steps, join_steps, keep_steps, find_steps, work_steps, rebuild_steps}
 use Rattle.steps.specs.Works.{Works}
 
 pub bits_down : (w : Scratch) (r : Rule) (v : ℕ) (rest : List Op) → 0 < v → bits_steps w r v rest ≡ bit_steps w r v (bits_steps w r (v - 1) rest)
 bits_down w r zero rest h = absurd (omega arith)
 bits_down w r (suc v) rest h = let e : v ≡ suc v - 1 = omega arith in ap (λ k. bit_steps w r (suc v) (bits_steps w r k rest)) e
+
+pub rebuild_drop : (rules : List Rule) (i n : ℕ) (d : Rule) (rest : List Op) → i < length rules → rebuild_steps (drop i rules) n rest ≡ find_steps scratch 10 (get_or rules i d) n (keep_steps scratch 10 11 (get_or rules i d) (rebuild_steps (drop (i + 1) rules) n rest))
+rebuild_drop rules i n d rest h = ap (λ (rs : List Rule). rebuild_steps rs n rest) more
+  where
+    more : drop i rules ≡ get_or rules i d ∷ drop (i + 1) rules
+    more = drop-cons rules i d h ∙ rw add-one refl
 
 pub keep_block : {A : Type 0} {R : Rooms} {e e' : View R.Shape} {x : Result A EngineFault} (w : Scratch) (m b : ℕ) (r : Rule) → blocks r.action ≡ true → Ran R (λ rest. join_steps w w.matched m w.rule (join_steps w w.blocked b w.fresh rest)) e e' x → Ran R (keep_steps w m b r) e e' x
 keep_block w m b r h p = record { goes = λ rest. rw h (p.goes rest) }

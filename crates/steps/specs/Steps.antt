@@ -1,6 +1,7 @@
 -- The engine calls of each call of a filter, each part put before any others. w names the scratch registers.
 use Rattle.std.specs.Prelude.{ℕ, zero, suc, ◌+◌, cond, List, [], ◌∷◌}
 use Rattle.engine.specs.Ops.{Op, bit_at}
+use Rattle.kind.specs.declared.rule.Action.{Action}
 use Rattle.kind.specs.declared.rule.Rule.{Rule}
 use Rattle.kind.specs.Rules.{blocks}
 use Rattle.steps.specs.declared.scratch.Scratch.{Scratch}
@@ -60,9 +61,13 @@ work_steps w r n rest = find_steps w 2 r n (Op.empty w.fresh ∷ keep_steps w 2 
 abbrev pub replace_steps : List Op → List Op
 replace_steps rest = Op.copy 2 10 ∷ (Op.copy 1 11 ∷ (Op.clear 10 ∷ (Op.clear 11 ∷ rest)))
 
+-- the draft's registers that a rule of this action changes are written, and the scratch registers cleared
+abbrev pub stored_steps : Action → List Op → List Op
+stored_steps a rest = cond (blocks a) (replace_steps rest) (Op.copy 2 10 ∷ (Op.clear 10 ∷ rest))
+
 -- the draft's registers that the rule changes are written, and the scratch registers cleared
 abbrev pub store_steps : Rule → List Op → List Op
-store_steps r rest = cond (blocks r.action) (replace_steps rest) (Op.copy 2 10 ∷ (Op.clear 10 ∷ rest))
+store_steps r = stored_steps r.action
 
 -- the frames that these rules match and block are put together in the scratch registers
 abbrev pub rebuild_steps : List Rule → ℕ → List Op → List Op

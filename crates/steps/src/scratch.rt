@@ -1,5 +1,13 @@
+ghost use Rattle.std.specs.Prelude.{◌≡◌};
+ghost use Rattle.engine.specs.Rows.{Ran};
+
+use engine::assignment::bit;
+use engine::calls::{DecidingEngine, Engine};
+use engine::fault::EngineFault;
+use kind::rule::Rule;
+
 // The registers that a call uses between its start and its end. Between calls all of them are false.
-#[derive(Clone, Copy)]
+#[derive(Clone, Copy, Debug, PartialEq, Eq)]
 pub struct Scratch {
     // the frames that the rule matches
     pub rule: u8,
@@ -38,3 +46,104 @@ pub const BLOCKED: u8 = 1;
 
 // The register of the frames that the draft matches.
 pub const MATCHED: u8 = 2;
+
+impl Scratch {
+    ghost use Rattle.steps.specs.Steps.{bit_steps, rule_steps, join_steps, find_steps, keep_steps};
+    ghost use Rattle.steps.specs.Works.{Works};
+
+    // The rule's register is met with its bit v, if that counts.
+    fn meet_bit<E: Engine>(self, e: &mut E, rule: &Rule, v: u8) -> Result<(), EngineFault>
+        ensures { Ran E.Engine.rooms (bit_steps self rule.now v) (E.Engine.view e.old) (E.Engine.view e.new) result }
+    {
+        if !bit(&rule.care, v) {
+            return Ok(());
+        }
+        e.literal(self.literal, v)?;
+        if bit(&rule.value, v) {
+            e.meet(self.rule, self.literal, self.rule)?;
+            e.clear(self.literal)
+        } else {
+            e.negate(self.negated, self.literal)?;
+            e.clear(self.literal)?;
+            e.meet(self.rule, self.negated, self.rule)?;
+            e.clear(self.negated)
+        }
+    }
+
+    // The rule's register becomes the frames that it matches; n is the number of bits.
+    #[tactic(auto, using(crate::proofs::Rows::bits_down))]
+    fn build<E: Engine>(self, e: &mut E, rule: &Rule, n: u8) -> Result<(), EngineFault>
+        ensures { Ran E.Engine.rooms (rule_steps self rule.now n) (E.Engine.view e.old) (E.Engine.view e.new) result }
+    {
+        e.negate(self.rule, self.literal)?;
+        for v in (1..=n).rev() {
+            self.meet_bit(e, rule, v)?;
+        }
+        Ok(())
+    }
+
+    // Register d becomes a or b, and b becomes false.
+    fn join<E: Engine>(self, e: &mut E, d: u8, a: u8, b: u8) -> Result<(), EngineFault>
+        ensures { Ran E.Engine.rooms (join_steps self d a b) (E.Engine.view e.old) (E.Engine.view e.new) result }
+    {
+        e.negate(self.left, a)?;
+        e.negate(self.right, b)?;
+        e.clear(b)?;
+        e.meet(self.both, self.left, self.right)?;
+        e.clear(self.left)?;
+        e.clear(self.right)?;
+        e.negate(d, self.both)?;
+        e.clear(self.both)
+    }
+
+    // The frames that the rule matches, and those of them that are not in register m.
+    pub(crate) fn find<E: Engine>(
+        self,
+        e: &mut E,
+        rule: &Rule,
+        n: u8,
+        m: u8,
+    ) -> Result<(), EngineFault>
+        ensures { Ran E.Engine.rooms (find_steps self m rule.now n) (E.Engine.view e.old) (E.Engine.view e.new) result }
+    {
+        self.build(e, rule, n)?;
+        e.negate(self.left, m)?;
+        e.meet(self.fresh, self.rule, self.left)?;
+        e.clear(self.left)
+    }
+
+    // The frames matched and, for block, blocked with the rule, from those matched (m) and blocked (b) before it.
+    #[tactic(auto, using(crate::proofs::Rows::keep_pass))]
+    pub(crate) fn keep<E: Engine>(
+        self,
+        e: &mut E,
+        rule: &Rule,
+        m: u8,
+        b: u8,
+    ) -> Result<(), EngineFault>
+        ensures { Ran E.Engine.rooms (keep_steps self m b rule.now) (E.Engine.view e.old) (E.Engine.view e.new) result }
+    {
+        if rule.action.is_block() {
+            self.join(e, self.matched, m, self.rule)?;
+            self.join(e, self.blocked, b, self.fresh)
+        } else {
+            e.clear(self.fresh)?;
+            self.join(e, self.matched, m, self.rule)
+        }
+    }
+
+    // All that an add does before the draft's registers are written; whether the rule decides no frame.
+    pub(crate) fn work<E: DecidingEngine>(
+        self,
+        e: &mut E,
+        rule: &Rule,
+        n: u8,
+    ) -> Result<bool, EngineFault>
+        ensures { Works E.Engine.rooms self rule.now n (E.Engine.view e.old) (E.Engine.view e.new) result }
+    {
+        self.find(e, rule, n, MATCHED)?;
+        let idle = e.empty(self.fresh)?;
+        self.keep(e, rule, MATCHED, BLOCKED)?;
+        Ok(idle)
+    }
+}

@@ -1,20 +1,26 @@
-ghost use Rattle.std.specs.Prelude.{◌≡◌, Ok};
+ghost use Rattle.std.specs.Prelude.{◌≡◌, Ok, Err, IfOk, IfErr};
+ghost use Rattle.std.specs.Fn.{FnOnceReturnsAtMut};
 ghost use Rattle.engine.specs.Rows.{Ran};
-ghost use Rattle.steps.specs.Steps.{replace_steps, sweep_steps};
+ghost use Rattle.steps.specs.Steps.{stored_steps, sweep_steps};
 
 use crate::scratch::{BLOCKED, MATCHED, SCRATCH};
 use engine::calls::Engine;
 use engine::fault::EngineFault;
+use kind::rule::Action;
 
-// Both of the draft's registers are written, and the scratch registers cleared.
-pub(crate) fn replace<E: Engine>(e: &mut E) -> Result<(), EngineFault>
-    ensures row { Ran E.Engine.rooms replace_steps (E.Engine.view e.old) (E.Engine.view e.new) result }
+// The draft's registers that a rule of this action changes are written, and the scratch registers cleared.
+pub(crate) fn store<E: Engine>(e: &mut E, action: Action) -> Result<(), EngineFault>
+    ensures row { Ran E.Engine.rooms (stored_steps action) (E.Engine.view e.old) (E.Engine.view e.new) result }
     ensures done { result ≡ Ok tt }
 {
     e.copy(MATCHED, SCRATCH.matched)?;
-    e.copy(BLOCKED, SCRATCH.blocked)?;
-    e.clear(SCRATCH.matched)?;
-    e.clear(SCRATCH.blocked)
+    if action.is_block() {
+        e.copy(BLOCKED, SCRATCH.blocked)?;
+        e.clear(SCRATCH.matched)?;
+        e.clear(SCRATCH.blocked)
+    } else {
+        e.clear(SCRATCH.matched)
+    }
 }
 
 // The scratch registers become false.
@@ -31,4 +37,22 @@ pub fn sweep<E: Engine>(e: &mut E) -> Result<(), EngineFault>
     e.clear(SCRATCH.fresh)?;
     e.clear(SCRATCH.matched)?;
     e.clear(SCRATCH.blocked)
+}
+
+// What the work gives; after a refusal the scratch registers become false.
+pub fn or_swept<E: Engine, T, F: FnOnce(&mut E) -> Result<T, EngineFault>>(
+    e: &mut E,
+    work: F,
+) -> Result<T, EngineFault>
+    requires { F.IsAlwaysCallable work }
+    ensures answered { IfOk result (λ x. FnOnceReturnsAtMut F.FnOnce work e.old (Ok x) e.new) }
+    ensures refused { IfErr result (λ fault. (at : E) × FnOnceReturnsAtMut F.FnOnce work e.old (Err fault) at × Ran {A = Unit {0}} E.Engine.rooms sweep_steps (E.Engine.view at) (E.Engine.view e.new) (Ok tt)) }
+{
+    match work(e) {
+        Ok(x) => Ok(x),
+        Err(fault) => {
+            sweep(e)?;
+            Err(fault)
+        }
+    }
 }

@@ -1,7 +1,7 @@
 use Rattle.std.proofs.lemmas.Result.{err_from_is_err_and}
 use Rattle.engine.proofs.Rows.{row, next}
 use Rattle.steps.proofs.Rows.{tested, refused}
-use Rattle.steps.proofs.add.work.Goals as goal
+use Rattle.steps.proofs.scratch.Scratch.work.Goals as goal
 
 pub returns-in_err-keep : goal.returns-in_err-keep
 returns-in_err-keep g c =
