@@ -13,7 +13,7 @@ use Rattle.steps.specs.Meaning.{meaning}
 use Rattle.search.specs.Steps.{alike_steps, least_steps}
 use Rattle.search.specs.Least.{Least}
 use Rattle.filter.specs.declared.fault.FilterFault.{FilterFault}
-use Rattle.filter.specs.Books.{Books}
+use Rattle.filter.specs.Books.{Books, Held}
 use Rattle.filter.specs.Answers.{Answer, engine_told}
 use Rattle.filter.specs.Calls.{Asked, adding, committing, judging, withdrawing, comparing, refusal, Right, drawn}
 
@@ -60,3 +60,7 @@ pub record Turn (R : Rooms) (k : Reading) (c : Asked) (e : View R.Shape) (b : Bo
   pub stays : (f : FilterFault) → a ≡ Err f → e'.regs ≡ e.regs
   -- the engine calls that were made, and the refusal for want of room exactly where one of them lacks it
   pub went : Went R (refusal k e.vars b c) k b c e e' a
+
+-- the same between what a filter holds before and after; view tells what its engine means
+abbrev pub Turns : (R : Rooms) → {E : Type 0} → (E → View R.Shape) → Reading → Asked → Held E → Held E → Answer → Type 0
+Turns R view k c old new a = Turn R k c (view old.engine) old.books (view new.engine) new.books a

@@ -4,7 +4,7 @@ ghost use Rattle.steps.specs.Steps.{wipe_steps};
 ghost use Rattle.filter.specs.Books.{books, no_rules};
 ghost use Rattle.filter.specs.Calls.{Asked, fitting_bits};
 ghost use Rattle.filter.specs.Answers.{added_as, committed_as, judged_as, withdrawn_as, compared_as, Stays};
-ghost use Rattle.filter.specs.Turns.{Sound, Turn};
+ghost use Rattle.filter.specs.Turns.{Sound, Turns};
 
 use crate::answer::{Added, Comparison};
 use crate::book::{Book, copied};
@@ -45,12 +45,12 @@ impl<K: Kind, E: DecidingEngine> Model for Filter<K, E> {
 
 impl<K: Kind, E: DecidingEngine> Filter<K, E> {
     // A filter with empty books; every register becomes false.
-    pub fn new(kind: K, engine: E) -> Filter<K, E>
+    pub fn new(kind: K, mut engine: E) -> Filter<K, E>
         ensures row { Ran {A = Unit {0}} E.Engine.rooms wipe_steps (E.Engine.view engine) (E.Engine.view result.engine) (Ok tt) }
         ensures vars { (E.Engine.view result.engine).vars ≡ (E.Engine.view engine).vars }
         ensures books { result.books ≡ no_rules }
+        ensures sound { Sound K.Kind.reading (E.Engine.view result.engine) no_rules }
     {
-        let mut engine = engine;
         wipe(&mut engine);
         Filter {
             kind,
@@ -80,7 +80,7 @@ impl<K: Kind, E: DecidingEngine> Filter<K, E> {
 
     // Puts the rule that the line says last in the draft; tells its number, and whether it decides no frame there.
     pub fn add(&mut self, line: &[u8]) -> Result<Added, FilterFault>
-        ensures { Turn E.Engine.rooms K.Kind.reading (Asked.adding line.now) (E.Engine.view self.old.engine) self.old.books (E.Engine.view self.new.engine) self.new.books (added_as result) }
+        ensures { Turns E.Engine.rooms E.Engine.view K.Kind.reading (Asked.adding line.now) self.old self.new (added_as result) }
     {
         let n = self.bits()?;
         let rule = self.kind.read(line)?;
@@ -97,7 +97,7 @@ impl<K: Kind, E: DecidingEngine> Filter<K, E> {
 
     // Makes the draft the live book.
     pub fn commit(&mut self) -> Result<(), FilterFault>
-        ensures { Turn E.Engine.rooms K.Kind.reading Asked.committing (E.Engine.view self.old.engine) self.old.books (E.Engine.view self.new.engine) self.new.books (committed_as result) }
+        ensures { Turns E.Engine.rooms E.Engine.view K.Kind.reading Asked.committing self.old self.new (committed_as result) }
     {
         self.bits()?;
         self.engine.copy(LIVE, BLOCKED)?;
@@ -107,7 +107,7 @@ impl<K: Kind, E: DecidingEngine> Filter<K, E> {
 
     // What the live book does with the frame.
     pub fn judge(&mut self, frame: &[u8]) -> Result<Action, FilterFault>
-        ensures { Turn E.Engine.rooms K.Kind.reading (Asked.judging frame.now) (E.Engine.view self.old.engine) self.old.books (E.Engine.view self.new.engine) self.new.books (judged_as result) }
+        ensures { Turns E.Engine.rooms E.Engine.view K.Kind.reading (Asked.judging frame.now) self.old self.new (judged_as result) }
     {
         self.bits()?;
         let bits = self.kind.turn(frame)?;
@@ -117,7 +117,7 @@ impl<K: Kind, E: DecidingEngine> Filter<K, E> {
 
     // Takes the rule of this number out of the draft; rules are numbered from 1, and the gap is closed.
     pub fn withdraw(&mut self, number: usize) -> Result<(), FilterFault>
-        ensures { Turn E.Engine.rooms K.Kind.reading (Asked.withdrawing number) (E.Engine.view self.old.engine) self.old.books (E.Engine.view self.new.engine) self.new.books (withdrawn_as result) }
+        ensures { Turns E.Engine.rooms E.Engine.view K.Kind.reading (Asked.withdrawing number) self.old self.new (withdrawn_as result) }
     {
         let n = self.bits()?;
         if number < 1 || number > self.draft.len() {
@@ -133,7 +133,7 @@ impl<K: Kind, E: DecidingEngine> Filter<K, E> {
     // Whether the two books judge every frame alike; where not, the least frame that they judge differently goes into
     // the first bytes of the place.
     pub fn compare(&mut self, place: &mut Assignment) -> Result<Comparison, FilterFault>
-        ensures turn { Turn E.Engine.rooms K.Kind.reading (Asked.comparing place.old) (E.Engine.view self.old.engine) self.old.books (E.Engine.view self.new.engine) self.new.books (compared_as result place.new) }
+        ensures turn { Turns E.Engine.rooms E.Engine.view K.Kind.reading (Asked.comparing place.old) self.old self.new (compared_as result place.new) }
         ensures stays { Stays result place.old place.new }
     {
         self.bits()?;

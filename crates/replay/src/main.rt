@@ -3,7 +3,7 @@
 mod session;
 mod show;
 
-use session::{Session, obey};
+use session::Session;
 use std::io;
 use std::io::Read;
 use text::fields::Reader;
@@ -16,9 +16,8 @@ fn main(rt: HostRuntime) -> io::Result<()> {
     let mut script = Vec::new(rt.alloc());
     rt.stdin().read_to_end(&mut script)?;
     let mut session = Session::new();
-    let mut lines = Reader::new(script.as_slice(), LINE_END);
-    while let Some(line) = lines.next_field() {
-        obey(&rt, &mut session, line.text)?;
+    for line in Reader::new(script.as_slice(), LINE_END) {
+        session.obey(&rt, line.text)?;
     }
     Ok(())
 }

@@ -1,89 +1,96 @@
-use crate::show::{show, show_rule};
+use crate::show::{Bits, Refusal, Shown};
 use filter::filter::Filter;
 use flat::flat_kind::FlatKind;
 use kind::kind::Kind;
 use run::call::Call;
 use run::perform::perform;
-use script::command::{Command, read_command};
+use script::command::{BadCommand, Command, read_command};
 use std::io;
 use text::hex::decode;
 use word::word::WordEngine;
 
-// The filter that a script works on; it is asked nothing before the script's first box.
+// The filter that a script works on; there is none before the script's first box.
 #[derive(Drop)]
 pub struct Session {
-    open: bool,
-    filter: Filter<FlatKind, WordEngine>,
+    filter: Option<Filter<FlatKind, WordEngine>>,
+}
+
+// A flat filter on a word engine of so many variables, the kind's where no number is given.
+fn new_filter(n: Option<usize>) -> Filter<FlatKind, WordEngine> {
+    let n = n.map_or(FlatKind.bits(), |n| n.min(255) as u8);
+    Filter::new(FlatKind, WordEngine::new(n))
+}
+
+// The answer to a line that is no command, or whose command cannot be carried out.
+fn refuse(rt: &HostRuntime) -> io::Result<()> {
+    println!(rt; "bad command")
+}
+
+// The rule of a line that is given in hexadecimal.
+fn read(rt: &HostRuntime, text: &[u8]) -> io::Result<()> {
+    let Some(line) = decode(rt.alloc(), text)? else {
+        return refuse(rt);
+    };
+    match FlatKind.read(line.as_slice()) {
+        Ok(rule) => println!(rt; "{}", Bits(rule)),
+        Err(fault) => println!(rt; "{}", Refusal(fault.into())),
+    }
 }
 
 impl Session {
     // A session before its first box.
     pub fn new() -> Session {
-        Session {
-            open: false,
-            filter: new_filter(None),
+        Session { filter: None }
+    }
+
+    // One call of the session's filter, and its answer.
+    fn ask(&mut self, rt: &HostRuntime, call: &Call) -> io::Result<()> {
+        let Some(filter) = &mut self.filter else {
+            return refuse(rt);
+        };
+        let answer = perform(filter, call);
+        println!(rt; "{}", Shown { answer, size: FlatKind.size() })
+    }
+
+    // A line that is given in hexadecimal is added.
+    fn add_hex(&mut self, rt: &HostRuntime, text: &[u8]) -> io::Result<()> {
+        match decode(rt.alloc(), text)? {
+            Some(line) => self.ask(rt, &Call::Add(line.as_slice())),
+            None => refuse(rt),
         }
     }
-}
 
-// A flat filter on a word engine of so many variables, the kind's where no number is given.
-fn new_filter(n: Option<usize>) -> Filter<FlatKind, WordEngine> {
-    let n = match n {
-        Some(n) => n.min(255) as u8,
-        None => FlatKind.bits(),
-    };
-    Filter::new(FlatKind, WordEngine::new(n))
-}
-
-// One call of the session's filter, and its answer.
-fn ask(rt: &HostRuntime, session: &mut Session, call: &Call) -> io::Result<()> {
-    if !session.open {
-        return println!(rt; "bad command");
-    }
-    let answer = perform(&mut session.filter, call);
-    show(rt, answer, FlatKind.size())
-}
-
-// A line that is given in hexadecimal is added.
-fn add_hex(rt: &HostRuntime, session: &mut Session, text: &[u8]) -> io::Result<()> {
-    match decode(rt.alloc(), text)? {
-        Some(line) => ask(rt, session, &Call::Add(line.as_slice())),
-        None => println!(rt; "bad command"),
-    }
-}
-
-// A frame that is given in hexadecimal is judged; other text is no frame.
-fn judge(rt: &HostRuntime, session: &mut Session, text: &[u8]) -> io::Result<()> {
-    match decode(rt.alloc(), text)? {
-        Some(frame) => ask(rt, session, &Call::Judge(frame.as_slice())),
-        None => ask(rt, session, &Call::Judge(&[])),
-    }
-}
-
-// The rule of a line that is given in hexadecimal.
-fn read(rt: &HostRuntime, text: &[u8]) -> io::Result<()> {
-    match decode(rt.alloc(), text)? {
-        Some(line) => show_rule(rt, FlatKind.read(line.as_slice())),
-        None => println!(rt; "bad command"),
-    }
-}
-
-// What a line of the script asks for is done, and its answer printed.
-pub fn obey(rt: &HostRuntime, session: &mut Session, line: &[u8]) -> io::Result<()> {
-    match read_command(line) {
-        Command::Skip => Ok(()),
-        Command::Bad => println!(rt; "bad command"),
-        Command::Read(text) => read(rt, text),
-        Command::Flat(n) => {
-            session.filter = new_filter(n);
-            session.open = true;
-            println!(rt; "ready")
+    // A frame that is given in hexadecimal is judged; other text is no frame.
+    fn judge(&mut self, rt: &HostRuntime, text: &[u8]) -> io::Result<()> {
+        match decode(rt.alloc(), text)? {
+            Some(frame) => self.ask(rt, &Call::Judge(frame.as_slice())),
+            None => self.ask(rt, &Call::Judge(&[])),
         }
-        Command::Add(line) => ask(rt, session, &Call::Add(line)),
-        Command::AddHex(text) => add_hex(rt, session, text),
-        Command::Judge(text) => judge(rt, session, text),
-        Command::Withdraw(number) => ask(rt, session, &Call::Withdraw(number)),
-        Command::Commit => ask(rt, session, &Call::Commit),
-        Command::Compare => ask(rt, session, &Call::Compare),
+    }
+
+    // A command is carried out, and its answer printed.
+    fn carry_out(&mut self, rt: &HostRuntime, command: Command) -> io::Result<()> {
+        match command {
+            Command::Read(text) => read(rt, text),
+            Command::Flat(n) => {
+                self.filter = Some(new_filter(n));
+                println!(rt; "ready")
+            }
+            Command::Add(line) => self.ask(rt, &Call::Add(line)),
+            Command::AddHex(text) => self.add_hex(rt, text),
+            Command::Judge(text) => self.judge(rt, text),
+            Command::Withdraw(number) => self.ask(rt, &Call::Withdraw(number)),
+            Command::Commit => self.ask(rt, &Call::Commit),
+            Command::Compare => self.ask(rt, &Call::Compare),
+        }
+    }
+
+    // What a line of the script asks for is done, and its answer printed.
+    pub fn obey(&mut self, rt: &HostRuntime, line: &[u8]) -> io::Result<()> {
+        match read_command(line) {
+            Ok(Some(command)) => self.carry_out(rt, command),
+            Ok(None) => Ok(()),
+            Err(BadCommand) => refuse(rt),
+        }
     }
 }

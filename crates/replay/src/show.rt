@@ -1,69 +1,67 @@
-use engine::assignment::BYTES;
-use filter::answer::Answer;
-use kind::fault::RuleFault;
+use filter::answer::{Answer, Reply};
+use filter::fault::FilterFault;
 use kind::rule::Rule;
-use std::io;
-use std::io::Write;
+use std::fmt;
 use text::hex::low_digit;
 
-// Two lower-case hexadecimal digits for each byte.
-fn write_hex(rt: &HostRuntime, bytes: &[u8]) -> io::Result<()> {
-    for b in bytes {
-        rt.stdout().write_all(&[low_digit(*b / 16), low_digit(*b)])?;
-    }
-    Ok(())
-}
+// Bytes in lower-case hexadecimal.
+#[derive(Clone, Copy)]
+struct Hex<'a>(&'a [u8]);
 
-// A word and the end of the line.
-fn write_line(rt: &HostRuntime, word: &[u8]) -> io::Result<()> {
-    rt.stdout().write_all(word)?;
-    rt.stdout().write_all(b"\n")
-}
-
-// The frame in the first bytes of a place.
-fn show_frame(rt: &HostRuntime, place: &[u8; BYTES], size: u8) -> io::Result<()> {
-    let size = usize::from(size).min(BYTES);
-    rt.stdout().write_all(b"differs ")?;
-    write_hex(rt, &place[0..size])?;
-    rt.stdout().write_all(b"\n")
-}
-
-// Prints an answer; a frame has so many bytes.
-pub fn show(rt: &HostRuntime, answer: Answer, size: u8) -> io::Result<()> {
-    match answer {
-        Answer::Added(added) => {
-            let number = added.number;
-            let word = if added.idle { "idle" } else { "acts" };
-            println!(rt; "rule {number} {word}")
+impl fmt::Display for Hex<'_> {
+    fn fmt<W: fmt::Write>(&self, f: &mut fmt::Formatter<W>) -> fmt::Result {
+        for byte in self.0 {
+            f.write_char(char::from(low_digit(*byte / 16)))?;
+            f.write_char(char::from(low_digit(*byte)))?;
         }
-        Answer::Committed => write_line(rt, b"committed"),
-        Answer::Verdict(action) => write_line(rt, action.word()),
-        Answer::Withdrawn => write_line(rt, b"withdrawn"),
-        Answer::Alike => write_line(rt, b"alike"),
-        Answer::Differs(place) => show_frame(rt, &place, size),
-        Answer::Refused(fault) => {
-            let number = fault.number();
-            let place = fault.place();
-            println!(rt; "refused {number} {place}")
-        }
+        Ok(())
     }
 }
 
-// Prints the rule that a line says, or its fault.
-pub fn show_rule(rt: &HostRuntime, read: Result<Rule, RuleFault>) -> io::Result<()> {
-    match read {
-        Ok(rule) => {
-            rt.stdout().write_all(rule.action.word())?;
-            rt.stdout().write_all(b" ")?;
-            write_hex(rt, &rule.value)?;
-            rt.stdout().write_all(b" ")?;
-            write_hex(rt, &rule.care)?;
-            rt.stdout().write_all(b"\n")
-        }
-        Err(fault) => {
-            let number = fault.number();
-            let place = fault.place();
-            println!(rt; "refused {number} {place}")
+// A refusal, by its number and place.
+#[derive(Clone, Copy)]
+pub struct Refusal(pub FilterFault);
+
+impl fmt::Display for Refusal {
+    fn fmt<W: fmt::Write>(&self, f: &mut fmt::Formatter<W>) -> fmt::Result {
+        write!(f, "refused {} {}", self.0.number(), self.0.place())
+    }
+}
+
+// A rule, by its action and the bytes of its value and care.
+#[derive(Clone, Copy)]
+pub struct Bits(pub Rule);
+
+impl fmt::Display for Bits {
+    fn fmt<W: fmt::Write>(&self, f: &mut fmt::Formatter<W>) -> fmt::Result {
+        let rule = self.0;
+        write!(f, "{} {} {}", rule.action, Hex(&rule.value), Hex(&rule.care))
+    }
+}
+
+// An answer of a filter whose frames have `size` bytes.
+#[derive(Clone, Copy)]
+pub struct Shown {
+    pub answer: Answer,
+    pub size: u8,
+}
+
+impl fmt::Display for Shown {
+    fn fmt<W: fmt::Write>(&self, f: &mut fmt::Formatter<W>) -> fmt::Result {
+        match self.answer {
+            Ok(Reply::Added(added)) => {
+                let word = if added.idle { "idle" } else { "acts" };
+                write!(f, "rule {} {word}", added.number)
+            }
+            Ok(Reply::Committed) => f.write_str("committed"),
+            Ok(Reply::Verdict(action)) => write!(f, "{action}"),
+            Ok(Reply::Withdrawn) => f.write_str("withdrawn"),
+            Ok(Reply::Alike) => f.write_str("alike"),
+            Ok(Reply::Differs(place)) => {
+                let size = usize::from(self.size).min(place.len());
+                write!(f, "differs {}", Hex(&place[..size]))
+            }
+            Err(fault) => write!(f, "{}", Refusal(fault)),
         }
     }
 }

@@ -1,6 +1,6 @@
 ghost use Rattle.std.specs.Prelude.{◌≡◌, replicate};
 ghost use Rattle.filter.specs.Calls.{comparing};
-ghost use Rattle.filter.specs.Turns.{Turn};
+ghost use Rattle.filter.specs.Turns.{Turns};
 ghost use Rattle.run.specs.Calls.{asked};
 
 use crate::call::Call;
@@ -12,7 +12,7 @@ use kind::kind::Kind;
 
 // A compare into a place of its own.
 fn compare<K: Kind, E: DecidingEngine>(filter: &mut Filter<K, E>) -> Answer
-    ensures { Turn E.Engine.rooms K.Kind.reading (comparing (replicate 18 0)) (E.Engine.view filter.old.engine) filter.old.books (E.Engine.view filter.new.engine) filter.new.books result }
+    ensures { Turns E.Engine.rooms E.Engine.view K.Kind.reading (comparing (replicate 18 0)) filter.old filter.new result }
 {
     let mut place = [0u8; BYTES];
     Ok(match filter.compare(&mut place)? {
@@ -23,7 +23,7 @@ fn compare<K: Kind, E: DecidingEngine>(filter: &mut Filter<K, E>) -> Answer
 
 // One call.
 pub fn perform<K: Kind, E: DecidingEngine>(filter: &mut Filter<K, E>, call: &Call) -> Answer
-    ensures { Turn E.Engine.rooms K.Kind.reading (asked call.now) (E.Engine.view filter.old.engine) filter.old.books (E.Engine.view filter.new.engine) filter.new.books result }
+    ensures { Turns E.Engine.rooms E.Engine.view K.Kind.reading (asked call.now) filter.old filter.new result }
 {
     match call {
         Call::Add(line) => Ok(Reply::Added(filter.add(line)?)),

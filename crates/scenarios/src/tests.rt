@@ -1,5 +1,7 @@
-use filter::answer::Answer;
+use engine::assignment::BYTES;
+use filter::answer::{Added, Answer, Reply};
 use flat::flat_kind::FlatKind;
+use kind::rule::Action;
 use run::call::Call;
 use run::run::{run, run_both};
 use std::alloc::{AllocError, Global};
@@ -10,58 +12,39 @@ use word::word::WordEngine;
 // The number of variables that a flat frame needs.
 const BITS: u8 = 6;
 
-// An answer, as a test looks at it.
-#[derive(Clone, Copy, PartialEq, Eq, Debug)]
-enum Told {
-    // a rule of this number that decides some frame
-    Acts(usize),
-    // a rule of this number that decides none
-    Idle(usize),
-    Committed,
-    Blocks,
-    Passes,
-    Withdrawn,
-    Alike,
-    // the first byte of the place, and whether the others are 0
-    Differs(u8, bool),
-    // the number of a fault and its place
-    Refused(u8, usize),
+// An answer, its refusal by number and place.
+type Told = Result<Reply, (u8, usize)>;
+
+const COMMITTED: Told = Ok(Reply::Committed);
+
+const WITHDRAWN: Told = Ok(Reply::Withdrawn);
+
+const ALIKE: Told = Ok(Reply::Alike);
+
+const BLOCKS: Told = Ok(Reply::Verdict(Action::Block));
+
+const PASSES: Told = Ok(Reply::Verdict(Action::Pass));
+
+// A rule of this number that decides some frame.
+fn acts(number: usize) -> Told {
+    Ok(Reply::Added(Added { number, idle: false }))
 }
 
-// Whether all bytes but the first are 0.
-fn rest_is_blank(place: &[u8]) -> bool {
-    let mut blank = true;
-    for b in place.iter().skip(1) {
-        if *b != 0 {
-            blank = false;
-        }
-    }
-    blank
+// A rule of this number that decides none.
+fn idle(number: usize) -> Told {
+    Ok(Reply::Added(Added { number, idle: true }))
+}
+
+// A place of this first byte, and else zeros.
+fn differs(frame: u8) -> Told {
+    let mut place = [0; BYTES];
+    place[0] = frame;
+    Ok(Reply::Differs(place))
 }
 
 // What the answer tells.
 fn tell(answer: &Answer) -> Told {
-    match answer {
-        Answer::Added(added) => {
-            if added.idle {
-                Told::Idle(added.number)
-            } else {
-                Told::Acts(added.number)
-            }
-        }
-        Answer::Committed => Told::Committed,
-        Answer::Verdict(action) => {
-            if action.is_block() {
-                Told::Blocks
-            } else {
-                Told::Passes
-            }
-        }
-        Answer::Withdrawn => Told::Withdrawn,
-        Answer::Alike => Told::Alike,
-        Answer::Differs(place) => Told::Differs(place[0], rest_is_blank(place)),
-        Answer::Refused(fault) => Told::Refused(fault.number(), fault.place()),
-    }
+    answer.map_err(|fault| (fault.number(), fault.place()))
 }
 
 // The answers tell what is expected, one by one.
@@ -97,7 +80,7 @@ fn the_first_rule_that_matches_decides(rt: HostRuntime) -> Result<(), Fail> {
             Call::Commit,
             Call::Judge(&[0x1d]),
         ],
-        &[Told::Acts(1), Told::Idle(2), Told::Committed, Told::Blocks],
+        &[acts(1), idle(2), COMMITTED, BLOCKS],
     )?;
     check_run(
         &rt,
@@ -109,7 +92,7 @@ fn the_first_rule_that_matches_decides(rt: HostRuntime) -> Result<(), Fail> {
             Call::Commit,
             Call::Judge(&[0x1d]),
         ],
-        &[Told::Acts(1), Told::Acts(2), Told::Committed, Told::Passes],
+        &[acts(1), acts(2), COMMITTED, PASSES],
     )
 }
 
@@ -132,16 +115,16 @@ fn a_rule_that_decides_no_frame_is_idle(rt: HostRuntime) -> Result<(), Fail> {
             Call::Judge(&[0x08]),
         ],
         &[
-            Told::Acts(1),
-            Told::Idle(2),
-            Told::Committed,
-            Told::Blocks,
-            Told::Passes,
-            Told::Acts(3),
-            Told::Idle(4),
-            Told::Committed,
-            Told::Blocks,
-            Told::Passes,
+            acts(1),
+            idle(2),
+            COMMITTED,
+            BLOCKS,
+            PASSES,
+            acts(3),
+            idle(4),
+            COMMITTED,
+            BLOCKS,
+            PASSES,
         ],
     )
 }
@@ -165,15 +148,15 @@ fn a_rule_acts_once_the_one_before_it_is_withdrawn(rt: HostRuntime) -> Result<()
             Call::Add(b"block 3 *"),
         ],
         &[
-            Told::Acts(1),
-            Told::Idle(2),
-            Told::Committed,
-            Told::Withdrawn,
-            Told::Blocks,
-            Told::Committed,
-            Told::Blocks,
-            Told::Passes,
-            Told::Acts(2),
+            acts(1),
+            idle(2),
+            COMMITTED,
+            WITHDRAWN,
+            BLOCKS,
+            COMMITTED,
+            BLOCKS,
+            PASSES,
+            acts(2),
         ],
     )
 }
@@ -197,26 +180,23 @@ fn compare_gives_the_least_frame(rt: HostRuntime) -> Result<(), Fail> {
             Call::Compare,
         ],
         &[
-            Told::Alike,
-            Told::Acts(1),
-            Told::Committed,
-            Told::Alike,
-            Told::Acts(2),
-            Told::Differs(0x08, true),
-            Told::Committed,
-            Told::Alike,
-            Told::Withdrawn,
-            Told::Differs(0x08, true),
+            ALIKE,
+            acts(1),
+            COMMITTED,
+            ALIKE,
+            acts(2),
+            differs(0x08),
+            COMMITTED,
+            ALIKE,
+            WITHDRAWN,
+            differs(0x08),
         ],
     )
 }
 
 // 65 adds; then a rule is withdrawn and two more are added.
 fn filling(heap: Global) -> Result<Vec<Call<'static>>, AllocError> {
-    let mut calls = Vec::new(heap);
-    for _ in 0..65 {
-        calls.push(Call::Add(b"block 3 *"))?;
-    }
+    let mut calls = vec![in heap; Call::Add(b"block 3 *"); 65]?;
     calls.push(Call::Withdraw(64))?;
     calls.push(Call::Add(b"pass 1 *"))?;
     calls.push(Call::Add(b"block 3 *"))?;
@@ -226,14 +206,14 @@ fn filling(heap: Global) -> Result<Vec<Call<'static>>, AllocError> {
 // What they tell: a draft holds 64 rules, and a withdraw makes room for one.
 fn filled(heap: Global) -> Result<Vec<Told>, AllocError> {
     let mut expected = Vec::new(heap);
-    expected.push(Told::Acts(1))?;
+    expected.push(acts(1))?;
     for number in 2..65 {
-        expected.push(Told::Idle(number))?;
+        expected.push(idle(number))?;
     }
-    expected.push(Told::Refused(15, 0))?;
-    expected.push(Told::Withdrawn)?;
-    expected.push(Told::Acts(64))?;
-    expected.push(Told::Refused(15, 0))?;
+    expected.push(Err((15, 0)))?;
+    expected.push(WITHDRAWN)?;
+    expected.push(acts(64))?;
+    expected.push(Err((15, 0)))?;
     Ok(expected)
 }
 
@@ -263,16 +243,16 @@ fn only_a_rule_of_the_draft_is_withdrawn(rt: HostRuntime) -> Result<(), Fail> {
             Call::Add(b"block 1 *"),
         ],
         &[
-            Told::Refused(16, 0),
-            Told::Refused(16, 0),
-            Told::Acts(1),
-            Told::Committed,
-            Told::Alike,
-            Told::Refused(16, 0),
-            Told::Refused(16, 0),
-            Told::Refused(16, 0),
-            Told::Alike,
-            Told::Acts(2),
+            Err((16, 0)),
+            Err((16, 0)),
+            acts(1),
+            COMMITTED,
+            ALIKE,
+            Err((16, 0)),
+            Err((16, 0)),
+            Err((16, 0)),
+            ALIKE,
+            acts(2),
         ],
     )
 }
@@ -293,7 +273,7 @@ fn an_engine_of_five_variables_is_refused(rt: HostRuntime) -> Result<(), Fail> {
             Call::Judge(&[64]),
             Call::Compare,
         ],
-        &[Told::Refused(14, 0); 8],
+        &[Err((14, 0)); 8],
     )
 }
 
@@ -315,15 +295,15 @@ fn a_refused_call_changes_nothing(rt: HostRuntime) -> Result<(), Fail> {
             Call::Add(b"block 3 *"),
         ],
         &[
-            Told::Refused(1, 0),
-            Told::Refused(2, 6),
-            Told::Refused(3, 0),
-            Told::Refused(9, 5),
-            Told::Refused(10, 0),
-            Told::Refused(10, 0),
-            Told::Refused(10, 0),
-            Told::Alike,
-            Told::Acts(1),
+            Err((1, 0)),
+            Err((2, 6)),
+            Err((3, 0)),
+            Err((9, 5)),
+            Err((10, 0)),
+            Err((10, 0)),
+            Err((10, 0)),
+            ALIKE,
+            acts(1),
         ],
     )
 }
@@ -347,14 +327,14 @@ fn two_engines_answer_alike(rt: HostRuntime) -> Result<(), Fail> {
         ],
     )?;
     let expected = [
-        Told::Acts(1),
-        Told::Idle(2),
-        Told::Refused(3, 0),
-        Told::Differs(0x18, true),
-        Told::Committed,
-        Told::Blocks,
-        Told::Withdrawn,
-        Told::Differs(0x18, true),
+        acts(1),
+        idle(2),
+        Err((3, 0)),
+        differs(0x18),
+        COMMITTED,
+        BLOCKS,
+        WITHDRAWN,
+        differs(0x18),
     ];
     check_answers(&rt, &one, &expected);
     check_answers(&rt, &two, &expected);
