@@ -1,10 +1,9 @@
-ghost use Rattle.std.specs.Prelude.{◌≡◌, ◌<◌, ◌≤◌, length, MatchOption};
-ghost use Rattle.text.specs.Split.{before};
-ghost use Rattle.script.specs.Commands.{alone, with_rest, withdraw_of, read_of, size_of, engine_of, box_of, worded, command_of, front, behind, shown};
+ghost use Rattle.std.specs.Prelude.{◌≡◌};
+ghost use Rattle.std.specs.Option.{option_map};
+ghost use Rattle.script.specs.Commands.{ok_map, alone, with_rest, with_argument, read_of, size_of, engine_of, box_of, worded, command_of, halves, shown};
 
 use crate::decimal::decimal;
-use text::split::before_byte;
-use text::word::is_word;
+use text::split::find_byte;
 
 // The byte between two words.
 const SPACE: u8 = b' ';
@@ -13,12 +12,8 @@ const SPACE: u8 = b' ';
 const COMMENT: u8 = b'#';
 
 // What a line of a script asks for.
-#[derive(Clone, Copy)]
+#[derive(Clone, Copy, Debug, PartialEq, Eq)]
 pub enum Command<'a> {
-    // nothing: an empty line or a comment
-    Skip,
-    // no command
-    Bad,
     // the rule of a flat rule line, given in hexadecimal
     Read(&'a [u8]),
     // a new flat filter on a word engine, of so many variables where a number is given
@@ -31,151 +26,110 @@ pub enum Command<'a> {
     Compare,
 }
 
+// A line is no command.
+#[derive(Clone, Copy, Debug, PartialEq, Eq)]
+pub struct BadCommand;
+
 // A command of one word.
-fn read_alone(word: &[u8]) -> Command<'_>
-    ensures { shown result ≡ alone word.now }
+fn read_alone(word: &[u8]) -> Result<Command<'_>, BadCommand>
+    ensures { ok_map shown result ≡ alone word.now }
 {
-    if is_word(word, b"commit") {
-        Command::Commit
-    } else if is_word(word, b"compare") {
-        Command::Compare
-    } else {
-        Command::Bad
+    match word {
+        b"commit" => Ok(Command::Commit),
+        b"compare" => Ok(Command::Compare),
+        _ => Err(BadCommand),
     }
-}
-
-// The rest of a withdraw: a number.
-fn read_withdraw(rest: &[u8]) -> Command<'_>
-    ensures { shown result ≡ withdraw_of rest.now }
-{
-    match decimal(rest) {
-        Some(number) => Command::Withdraw(number),
-        None => Command::Bad,
-    }
-}
-
-// A text split at its first space.
-#[derive(Clone, Copy)]
-struct Halves<'a> {
-    front: &'a [u8],
-    behind: &'a [u8],
 }
 
 // The text before the first space and the text behind it, where there is one.
-fn halve(text: &[u8]) -> Option<Halves<'_>>
-    ensures { MatchOption result (length text.now ≤ before 32 text.now) (λ h. (before 32 text.now < length text.now) × (h.front.now ≡ front text.now) × (h.behind.now ≡ behind text.now)) }
+fn halve(text: &[u8]) -> Option<(&[u8], &[u8])>
+    ensures { option_map (λ h. (h.0.now, h.1.now)) result ≡ halves text.now }
 {
-    let at = before_byte(text, SPACE);
-    if at >= text.len() {
-        return None;
-    }
-    Some(Halves {
-        front: &text[0..at],
-        behind: &text[at + 1..],
-    })
+    let at = find_byte(text, SPACE)?;
+    Some((&text[..at], &text[at + 1..]))
 }
 
 // The rest of a read: a kind, and a line in hexadecimal.
-fn read_read(rest: &[u8]) -> Command<'_>
-    ensures { shown result ≡ read_of rest.now }
+fn read_read(rest: &[u8]) -> Result<Command<'_>, BadCommand>
+    ensures { ok_map shown result ≡ read_of rest.now }
 {
-    let Some(halves) = halve(rest) else {
-        return Command::Bad;
-    };
-    if is_word(halves.front, b"flat") {
-        Command::Read(halves.behind)
-    } else {
-        Command::Bad
+    match halve(rest) {
+        Some((b"flat", line)) => Ok(Command::Read(line)),
+        _ => Err(BadCommand),
     }
 }
 
 // The number of variables: `n`, and a number.
-fn read_size(text: &[u8]) -> Command<'_>
-    ensures { shown result ≡ size_of text.now }
+fn read_size(text: &[u8]) -> Result<usize, BadCommand>
+    ensures { result ≡ size_of text.now }
 {
-    let Some(halves) = halve(text) else {
-        return Command::Bad;
-    };
-    if !is_word(halves.front, b"n") {
-        return Command::Bad;
-    }
-    match decimal(halves.behind) {
-        Some(n) => Command::Flat(Some(n)),
-        None => Command::Bad,
+    match halve(text) {
+        Some((b"n", number)) => decimal(number).ok_or(BadCommand),
+        _ => Err(BadCommand),
     }
 }
 
 // The engine, and its number of variables where one is given.
-fn read_engine(text: &[u8]) -> Command<'_>
-    ensures { shown result ≡ engine_of text.now }
+fn read_engine(text: &[u8]) -> Result<Option<usize>, BadCommand>
+    ensures { result ≡ engine_of text.now }
 {
-    let Some(halves) = halve(text) else {
-        if is_word(text, b"word") {
-            return Command::Flat(None);
-        }
-        return Command::Bad;
-    };
-    if is_word(halves.front, b"word") {
-        read_size(halves.behind)
-    } else {
-        Command::Bad
+    match halve(text) {
+        Some((b"word", size)) => Ok(Some(read_size(size)?)),
+        None if text == b"word".as_slice() => Ok(None),
+        _ => Err(BadCommand),
     }
 }
 
 // The rest of a box: the kind, and then the engine.
-fn read_box(rest: &[u8]) -> Command<'_>
-    ensures { shown result ≡ box_of rest.now }
+fn read_box(rest: &[u8]) -> Result<Command<'_>, BadCommand>
+    ensures { ok_map shown result ≡ box_of rest.now }
 {
-    let Some(halves) = halve(rest) else {
-        return Command::Bad;
-    };
-    if is_word(halves.front, b"flat") {
-        read_engine(halves.behind)
-    } else {
-        Command::Bad
+    match halve(rest) {
+        Some((b"flat", engine)) => Ok(Command::Flat(read_engine(engine)?)),
+        _ => Err(BadCommand),
+    }
+}
+
+// A command of a word and an argument that is read in turn.
+fn read_argument<'a>(word: &[u8], rest: &'a [u8]) -> Result<Command<'a>, BadCommand>
+    ensures { ok_map shown result ≡ with_argument word.now rest.now }
+{
+    match word {
+        b"withdraw" => Ok(Command::Withdraw(decimal(rest).ok_or(BadCommand)?)),
+        b"read" => read_read(rest),
+        b"box" => read_box(rest),
+        _ => Err(BadCommand),
     }
 }
 
 // A command of a word and the rest of its line.
-fn read_rest<'a>(word: &[u8], rest: &'a [u8]) -> Command<'a>
-    ensures { shown result ≡ with_rest word.now rest.now }
+fn read_rest<'a>(word: &[u8], rest: &'a [u8]) -> Result<Command<'a>, BadCommand>
+    ensures { ok_map shown result ≡ with_rest word.now rest.now }
 {
-    if is_word(word, b"add") {
-        Command::Add(rest)
-    } else if is_word(word, b"addhex") {
-        Command::AddHex(rest)
-    } else if is_word(word, b"judge") {
-        Command::Judge(rest)
-    } else if is_word(word, b"withdraw") {
-        read_withdraw(rest)
-    } else if is_word(word, b"read") {
-        read_read(rest)
-    } else if is_word(word, b"box") {
-        read_box(rest)
-    } else {
-        Command::Bad
+    match word {
+        b"add" => Ok(Command::Add(rest)),
+        b"addhex" => Ok(Command::AddHex(rest)),
+        b"judge" => Ok(Command::Judge(rest)),
+        _ => read_argument(word, rest),
     }
 }
 
 // What a line with a command asks for.
-fn read_words(line: &[u8]) -> Command<'_>
-    ensures { shown result ≡ worded line.now }
+fn read_words(line: &[u8]) -> Result<Command<'_>, BadCommand>
+    ensures { ok_map shown result ≡ worded line.now }
 {
     match halve(line) {
-        Some(halves) => read_rest(halves.front, halves.behind),
+        Some((word, rest)) => read_rest(word, rest),
         None => read_alone(line),
     }
 }
 
-// What a line asks for.
-pub fn read_command(line: &[u8]) -> Command<'_>
-    ensures { shown result ≡ command_of line.now }
+// What a line asks for; nothing where it is empty or a comment.
+pub fn read_command(line: &[u8]) -> Result<Option<Command<'_>>, BadCommand>
+    ensures { ok_map (option_map shown) result ≡ command_of line.now }
 {
-    if line.is_empty() {
-        return Command::Skip;
+    match line {
+        [] | [COMMENT, ..] => Ok(None),
+        _ => Ok(Some(read_words(line)?)),
     }
-    if line[0] == COMMENT {
-        return Command::Skip;
-    }
-    read_words(line)
 }
