@@ -15,21 +15,14 @@ use Rattle.search.proofs.Found.{hunt_ext, none_ran, none_alike, none_regs, some_
 use Rattle.filter.specs.declared.answer.Reply.TheVariants.{Alike, Differs}
 use Rattle.filter.specs.declared.fault.FilterFault.{FilterFault}
 use Rattle.filter.specs.declared.fault.FilterFault.TheVariants as fault
-use Rattle.filter.specs.Answers.{Answer}
 use Rattle.filter.specs.Books.{Books}
 use Rattle.filter.specs.Calls.{comparing, refusal, By}
 use Rattle.filter.specs.Turns.{Sound, Turn, Went, Steps, settled}
-use Rattle.filter.proofs.Turning.{settle_ok, settle_err, refused_after}
+use Rattle.filter.proofs.Turning.{settle_ok, settle_err, refused_after, reply_clash}
 
 -- a compare has its steps
 compare_steps : (k : Reading) (b : Books) (place : List ℕ) → (ops : List Op) × Steps k b (comparing place) ops
 compare_steps k b place = elim (alike_or_least k.bits b.live b.draft) as (λ _. (ops : List Op) × Steps k b (comparing place) ops) [ inl h ↦ (alike_steps, inl (h, refl)) | inr l ↦ (least_steps k.bits l.0, inr (l.0, l.1, refl)) ]
-
-alike_clash : (f : FilterFault) → ◌≡◌ {A = Answer} (Ok Alike) (Err f) → ⊥
-alike_clash f e = let z : ◌≡◌ {A = ℕ} 0 1 = cc in omega arith
-
-differs_clash : (p : List ℕ) (f : FilterFault) → ◌≡◌ {A = Answer} (Ok (Differs p)) (Err f) → ⊥
-differs_clash p f e = let z : ◌≡◌ {A = ℕ} 0 1 = cc in omega arith
 
 module _ (R : Rooms) (k : Reading) (place : List ℕ) (e e' : View R.Shape) (b : Books) (p : k.bits ≡ e.vars) where
   no_refusal : refusal k e.vars b (comparing place) ≡ None
@@ -43,7 +36,7 @@ module _ (R : Rooms) (k : Reading) (place : List ℕ) (e e' : View R.Shape) (b :
         right = subst (λ (o : Option FilterFault). By o k b (comparing place) (Ok Alike)) (sym no_refusal) (inl record { same = none_alike R k.bits b.live b.draft e s e' h; answer = refl });
         drew = refl;
         sound = w.1;
-        stays = λ f z. absurd (alike_clash f z);
+        stays = λ f z. absurd (reply_clash Alike f z);
         went = subst (λ (o : Option FilterFault). Went R o k b (comparing place) e e' (Ok Alike)) (sym no_refusal) record { known = compare_steps k b place; ends = went };
       }
     where
@@ -59,7 +52,7 @@ module _ (R : Rooms) (k : Reading) (place : List ℕ) (e e' : View R.Shape) (b :
         right = subst (λ (o : Option FilterFault). By o k b (comparing place) (Ok (Differs place'))) (sym no_refusal) (inr (inl record { bits = bit_at bits; least = low; answer = ap (λ (p : List ℕ). Ok (Differs p)) written }));
         drew = refl;
         sound = w.1;
-        stays = λ f z. absurd (differs_clash place' f z);
+        stays = λ f z. absurd (reply_clash (Differs place') f z);
         went = subst (λ (o : Option FilterFault). Went R o k b (comparing place) e e' (Ok (Differs place'))) (sym no_refusal) record { known = compare_steps k b place; ends = went };
       }
     where

@@ -1,5 +1,5 @@
 -- Turns of a withdraw.
-use Rattle.std.proofs.Common.{◌≡◌, ℕ, ◌-◌, ◌≤◌, List, [], length, None, Ok, Err, Option, sym, refl, ap, ◌∙◌, subst, inl, inr, arith, eq-eqb, le-leb}
+use Rattle.std.proofs.Common.{◌≡◌, ℕ, ◌-◌, ◌≤◌, List, [], length, None, Ok, Err, Option, sym, refl, ap, ◌∙◌, subst, inl, inr, eq-eqb, le-leb}
 use Rattle.std.specs.List.{remove}
 use Rattle.engine.specs.declared.fault.EngineFault.{EngineFault}
 use Rattle.engine.specs.Ops.{Op}
@@ -13,14 +13,10 @@ use Rattle.steps.proofs.Rebuilding.{rebuilds_ok, rebuilds_err}
 use Rattle.filter.specs.declared.answer.Reply.TheVariants.{Withdrawn}
 use Rattle.filter.specs.declared.fault.FilterFault.{FilterFault}
 use Rattle.filter.specs.declared.fault.FilterFault.TheVariants as fault
-use Rattle.filter.specs.Answers.{Answer}
 use Rattle.filter.specs.Books.{Books}
 use Rattle.filter.specs.Calls.{withdrawing, refusal, By}
 use Rattle.filter.specs.Turns.{Sound, Turn, Went, settled}
-use Rattle.filter.proofs.Turning.{settle_ok, settle_err, refused_after}
-
-clash : (f : FilterFault) → ◌≡◌ {A = Answer} (Ok Withdrawn) (Err f) → ⊥
-clash f e = let z : ◌≡◌ {A = ℕ} 0 1 = cc in omega arith
+use Rattle.filter.proofs.Turning.{settle_ok, settle_err, refused_after, reply_clash}
 
 module _ (R : Rooms) (k : Reading) (i : ℕ) (e e' : View R.Shape) (b : Books) (p : k.bits ≡ e.vars) (from : 1 ≤ i) (to : i ≤ length b.draft) where
   no_refusal : refusal k e.vars b (withdrawing i) ≡ None
@@ -37,7 +33,7 @@ module _ (R : Rooms) (k : Reading) (i : ℕ) (e e' : View R.Shape) (b : Books) (
         right = subst (λ (o : Option FilterFault). By o k b (withdrawing i) (Ok Withdrawn)) (sym no_refusal) (inl refl);
         drew = λ j. record { live = l j; draft = d j };
         sound = w.2 ∙ rw (l, d) refl;
-        stays = λ f z. absurd (clash f z);
+        stays = λ f z. absurd (reply_clash Withdrawn f z);
         went = subst (λ (o : Option FilterFault). Went R o k b (withdrawing i) e e' (Ok Withdrawn)) (sym no_refusal)
             record { known = (withdraw_steps rest_of k.bits, refl); ends = λ ops o. ap (λ (x : List Op). settled R (ran R e x)) o ∙ settle_ok R e e' (withdraw_steps rest_of k.bits) w.0 };
       }

@@ -1,5 +1,5 @@
 -- Turns of a filter, from what its engine did.
-use Rattle.std.proofs.Common.{◌≡◌, ℕ, ◌+◌, ◌<◌, ◌≤◌, Bool, true, false, cond, ◌==◌, List, [], ◌∷◌, ◌++◌, length, Some, None, Ok, Err, Option, Result, sym, refl, ap, ◌∙◌, subst, inl, inr, arith, le-ltb, lt-ltb, eq-eqb, eqb-true}
+use Rattle.std.proofs.Common.{◌≡◌, ℕ, ◌+◌, ◌<◌, Bool, true, false, cond, ◌==◌, List, [], ◌∷◌, ◌++◌, length, None, Ok, Err, Option, Result, sym, refl, ap, ◌∙◌, subst, inl, inr, arith, lt-ltb, eq-eqb, eqb-true}
 use Rattle.engine.specs.declared.fault.EngineFault.{EngineFault}
 use Rattle.engine.specs.Ops.{Op, Regs, within, bit_at}
 use Rattle.engine.specs.Does.{Rooms, View, Does, moved}
@@ -12,12 +12,13 @@ use Rattle.steps.specs.Steps.{add_steps, store_steps, sweep_steps}
 use Rattle.steps.specs.Works.{Admits}
 use Rattle.steps.proofs.Adding.{admits_ok, admits_err}
 use Rattle.filter.specs.declared.answer.Added.{Added as Done}
+use Rattle.filter.specs.declared.answer.Reply.{Reply}
 use Rattle.filter.specs.declared.answer.Reply.TheVariants.{Added, Verdict}
 use Rattle.filter.specs.declared.fault.FilterFault.{FilterFault}
 use Rattle.filter.specs.declared.fault.FilterFault.TheVariants as fault
 use Rattle.filter.specs.Answers.{Answer}
 use Rattle.filter.specs.Books.{Books}
-use Rattle.filter.specs.Calls.{Asked, adding, judging, fitting_bits, refusal, fit_refusal, By, drawn}
+use Rattle.filter.specs.Calls.{Asked, adding, judging, fitting_bits, refusal, By, drawn}
 use Rattle.filter.specs.Turns.{Sound, Turn, Went, Made, Steps, settled}
 
 -- a row that is answered
@@ -36,21 +37,6 @@ fits k n m e = go (k.bits == m) refl e
     go true h e = (cc, eqb-true k.bits m h)
     go false h e = absurd (let z : ◌≡◌ {A = ℕ} 0 1 = cc in omega arith)
 
--- a kind and an engine that fit
-pub fitting : (k : Reading) (n : ℕ) (b : Books) (c : Asked) → k.bits ≡ n → refusal k n b c ≡ fit_refusal k b c
-fitting k n b c p = rw (eq-eqb k.bits n p) refl
-
--- a call that is refused before the engine is asked
-pub refused_before : (R : Rooms) (k : Reading) (c : Asked) (e : View R.Shape) (b : Books) (f : FilterFault) → refusal k e.vars b c ≡ Some f → Sound k e b → Turn R k c e b e b (Err f)
-refused_before R k c e b f z s = record {
-  same = refl;
-  right = subst (λ (o : Option FilterFault). By o k b c (Err f)) (sym z) refl;
-  drew = refl;
-  sound = s;
-  stays = λ g h. refl;
-  went = subst (λ (o : Option FilterFault). Went R o k b c e e (Err f)) (sym z) refl;
-}
-
 -- a call whose engine calls were refused for want of room
 pub refused_after : (R : Rooms) (k : Reading) (c : Asked) (e e' : View R.Shape) (b : Books) (f : EngineFault) → refusal k e.vars b c ≡ None → e'.vars ≡ e.vars → By None k b c (Err (fault.Engine f)) → Sound k e b → Sound k e' b → Made R k b c e e' (Err (fault.Engine f)) → Turn R k c e b e' b (Err (fault.Engine f))
 refused_after R k c e e' b f none same fair s s' made = record {
@@ -62,9 +48,9 @@ refused_after R k c e e' b f none same fair s s' made = record {
   went = subst (λ (o : Option FilterFault). Went R o k b c e e' (Err (fault.Engine f))) (sym none) made;
 }
 
--- a refusal is no answer of another sort
-clash : (a : Answer) (f : FilterFault) (x : Done) → a ≡ Ok (Added x) → a ≡ Err f → ⊥
-clash a f x p q = let z : ◌≡◌ {A = ℕ} 0 1 = cc in omega arith
+-- a reply is no refusal
+pub reply_clash : (x : Reply) (f : FilterFault) → ◌≡◌ {A = Answer} (Ok x) (Err f) → ⊥
+reply_clash x f e = let z : ◌≡◌ {A = ℕ} 0 1 = cc in omega arith
 
 same_rule : (k : Reading) (line : List ℕ) (x y : Rule) → k.reads line ≡ Ok x → k.reads line ≡ Ok y → x ≡ y
 same_rule k line x y p q = cc
@@ -72,9 +58,6 @@ same_rule k line x y p q = cc
 -- an add that comes as far as the engine is refused for nothing else
 add_fits : (k : Reading) (n : ℕ) (b : Books) (line : List ℕ) (r : Rule) → k.bits ≡ n → k.reads line ≡ Ok r → length b.draft < 64 → refusal k n b (adding line) ≡ None
 add_fits k n b line r p q h = rw (eq-eqb k.bits n p, q, lt-ltb (length b.draft) 64 h) refl
-
-pub add_full : (R : Rooms) (k : Reading) (line : List ℕ) (r : Rule) (e : View R.Shape) (b : Books) → k.bits ≡ e.vars → k.reads line ≡ Ok r → 64 ≤ length b.draft → Sound k e b → Turn R k (adding line) e b e b (Err fault.Full)
-add_full R k line r e b p q h = refused_before R k (adding line) e b fault.Full (rw (eq-eqb k.bits e.vars p, q, le-ltb (length b.draft) 64 h) refl)
 
 add_known : (k : Reading) (b : Books) (line : List ℕ) (r : Rule) → k.reads line ≡ Ok r → (ops : List Op) × Steps k b (adding line) ops
 add_known k b line r q = (add_steps r k.bits, (r, q, refl))
@@ -100,7 +83,7 @@ add_kept R k line r e e' b b' x p q h a c l d s =
       right = subst (λ (o : Option FilterFault). By o k b (adding line) (Ok (Added x))) (sym none) (inl record { rule = r; read = q; told = x; answer = refl; number = c; idle = t.2 });
       drew = (λ j. record { live = l j; draft = d j }) ∙ sym kept;
       sound = t.1 ∙ rw (l, d) refl;
-      stays = λ f z. absurd (clash (Ok (Added x)) f x refl z);
+      stays = λ f z. absurd (reply_clash (Added x) f z);
       went = subst (λ (o : Option FilterFault). Went R o k b (adding line) e e' (Ok (Added x))) (sym none) record { known = add_known k b line r q; ends = went a };
     }
   where
