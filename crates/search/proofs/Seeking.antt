@@ -1,7 +1,8 @@
 -- What the search for the least frame comes to.
 use Rattle.std.proofs.Common.{◌≡◌, ℕ, zero, suc, ◌+◌, ◌<◌, ◌≤◌, Bool, true, false, not, ◌&&◌, eqb, ◌⊎◌, List, [], ◌∷◌, Ok, sym, refl, ap, ◌∙◌, subst, inl, inr, arith, eq-eqb, ne_eqb}
 use mathlib.Core.Path.{fun_ext}
-use borrow.Author.Tests.{both_ways}
+use Rattle.std.proofs.lemmas.Bool.{both_ways, false_from_ne_true}
+use Rattle.std.proofs.lemmas.Bool.Decides.{nat_tests}
 use Rattle.engine.specs.Ops.{Op, Regs, Bits, put, held}
 use Rattle.engine.specs.Does.{Rooms, View, Says}
 use Rattle.engine.specs.Rows.{Ran, ran}
@@ -10,7 +11,7 @@ use Rattle.engine.proofs.Puts.{by_eq, put_self, put_twice}
 use Rattle.kind.specs.declared.rule.Rule.{Rule}
 use Rattle.kind.specs.Rules.{agrees, judged}
 use Rattle.steps.specs.Meaning.{meaning}
-use Rattle.steps.proofs.Adding.{decide_bool, off3, off4, off5, off6, off7, off8, off9}
+use Rattle.steps.proofs.Registers.{same_regs}
 use Rattle.search.specs.Steps.{places, pick_steps, hunt_steps, differ_steps}
 use Rattle.search.specs.Least.{Below, Least}
 use Rattle.search.specs.Seeks.{Trail}
@@ -89,7 +90,7 @@ module _ (d : Bits → Bool) (p : Bits) where
       go : (b : Bool) → t (suc k) ≡ b → Says b ((s : Bits) → d (holding p k (held s (suc k) false)) ≡ false)
       go false e = (λ z. absurd (flat (sym z)), λ all. absurd (flat (sym h ∙ ap d (sym (ap (holding p k) (held_same t (suc k) false (sym e)) ∙ hold_same p t k same)) ∙ all t)))
       go true e = (
-        λ z s. decide_bool _ (λ y. low (holding p k (held s (suc k) false)) y record {
+        λ z s. false_from_ne_true _ (λ y. low (holding p k (held s (suc k) false)) y record {
           at = suc k;
           from = omega arith;
           to = omega arith;
@@ -112,16 +113,8 @@ module _ (d : Bits → Bool) (p : Bits) where
 -- the registers after the calls
 
 pick_regs : (v : ℕ) (x : Bool) (rest : List Op) (m : Regs) → m 10 ≡ (λ _. false) → regs_after (pick_steps places v x rest) m ≡ regs_after rest (put m 9 (λ s. m 9 (held s v x)))
-pick_regs v true rest m h = ap (regs_after rest) (fun_ext λ r. go r (by_eq r 10))
-  where
-    go : (r : ℕ) → (r ≡ 10) ⊎ (eqb r 10 ≡ false) → put (put (put (put (put m 10 (λ s. m 9 (held s v false))) 10 (λ _. false)) 10 (λ s. m 9 (held s v true))) 9 (λ s. m 9 (held s v true))) 10 (λ _. false) r ≡ put m 9 (λ s. m 9 (held s v true)) r
-    go r (inl e) = rw (eq-eqb r 10 e, ne_eqb r 9 (λ q. omega arith)) (sym h ∙ ap m (sym e))
-    go r (inr n) = rw n refl
-pick_regs v false rest m h = ap (regs_after rest) (fun_ext λ r. go r (by_eq r 10))
-  where
-    go : (r : ℕ) → (r ≡ 10) ⊎ (eqb r 10 ≡ false) → put (put (put m 10 (λ s. m 9 (held s v false))) 9 (λ s. m 9 (held s v false))) 10 (λ _. false) r ≡ put m 9 (λ s. m 9 (held s v false)) r
-    go r (inl e) = rw (eq-eqb r 10 e, ne_eqb r 9 (λ q. omega arith)) (sym h ∙ ap m (sym e))
-    go r (inr n) = rw n refl
+pick_regs v true rest m h = ap (regs_after rest) (fun_ext λ r. grind (arith, nat_tests))
+pick_regs v false rest m h = ap (regs_after rest) (fun_ext λ r. grind (arith, nat_tests))
 
 pub hunt_regs : (p : Bits) (k : ℕ) (rest : List Op) (m : Regs) → m 10 ≡ (λ _. false) → regs_after (hunt_steps places p k rest) m ≡ regs_after rest (put m 9 (λ s. m 9 (holding p k s)))
 hunt_regs p zero rest m h = ap (regs_after rest) (put_self m 9)
@@ -135,25 +128,7 @@ abbrev pub apart : (Bits → Bool) → (Bits → Bool) → Bits → Bool
 apart f g s = not (not (f s && not (g s)) && not (not (f s) && g s))
 
 pub differ_regs : (n : ℕ) (live draft : List Rule) (rest : List Op) → regs_after (differ_steps places 0 1 rest) (meaning n live draft) ≡ regs_after rest (put (meaning n live draft) 9 (apart (judged n live) (judged n draft)))
-differ_regs n live draft rest = ap (regs_after rest) (fun_ext go)
-  where
-    go : (x : ℕ) → regs_after (differ_steps places 0 1 []) (meaning n live draft) x ≡ put (meaning n live draft) 9 (apart (judged n live) (judged n draft)) x
-    go zero = refl
-    go (suc zero) = refl
-    go (suc (suc zero)) = refl
-    go (suc (suc (suc zero))) = refl
-    go (suc (suc (suc (suc zero)))) = refl
-    go (suc (suc (suc (suc (suc zero))))) = refl
-    go (suc (suc (suc (suc (suc (suc zero)))))) = refl
-    go (suc (suc (suc (suc (suc (suc (suc zero))))))) = refl
-    go (suc (suc (suc (suc (suc (suc (suc (suc zero)))))))) = refl
-    go (suc (suc (suc (suc (suc (suc (suc (suc (suc zero))))))))) = refl
-    go (suc (suc (suc (suc (suc (suc (suc (suc (suc (suc zero)))))))))) = refl
-    go (suc (suc (suc (suc (suc (suc (suc (suc (suc (suc (suc zero))))))))))) = refl
-    go (suc (suc (suc (suc (suc (suc (suc (suc (suc (suc (suc (suc y)))))))))))) =
-        let x : ℕ = (suc (suc (suc (suc (suc (suc (suc (suc (suc (suc (suc (suc y)))))))))))) in
-        let f : 11 < x = omega arith in
-        simp (off3 x f, off4 x f, off5 x f, off6 x f, off7 x f, off8 x f, off9 x f)
+differ_regs n live draft rest = ap (regs_after rest) (same_regs refl refl refl refl refl refl refl refl refl refl refl refl (λ x f. grind (arith, nat_tests)))
 
 pub apart_true : (f g : Bits → Bool) (s : Bits) → (f s ≡ g s → ⊥) → apart f g s ≡ true
 apart_true f g s h = go (f s) (g s) h
