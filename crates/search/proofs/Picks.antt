@@ -1,12 +1,11 @@
 -- The calls that fix one variable.
-use Rattle.std.proofs.Common.{◌≡◌, ℕ, zero, suc, ◌+◌, ◌-◌, ◌/◌, ◌%◌, ◌^◌, ◌≤◌, Bool, true, false, cond, List, [], ◌∷◌, get_or, replicate, Ok, Err, Option, Result, sym, refl, ap, ◌∙◌, subst, arith, eq-eqb, ne_eqb}
-use native.Mathlib.Nat.{zero-div}
+use Rattle.std.proofs.Common.{◌≡◌, ℕ, zero, suc, ◌+◌, ◌-◌, ◌≤◌, Bool, true, false, cond, List, [], ◌∷◌, Ok, Err, Option, Result, sym, refl, ap, ◌∙◌, subst, arith, eq-eqb, ne_eqb}
 use Rattle.engine.specs.declared.fault.EngineFault.{EngineFault}
 use Rattle.engine.specs.declared.fault.EngineFault.TheVariants.{Register, Variable, Room}
 use Rattle.engine.specs.Ops.{Op, Bits, held, bit_at, put}
 use Rattle.engine.specs.Does.{Does, Rooms, View, Tests, Says}
 use Rattle.engine.specs.Rows.{Ran}
-use Rattle.engine.proofs.Rows.{row, next, stop, retell, told_value, ran_regs}
+use Rattle.engine.proofs.Rows.{row, next, retell, told_value, ran_regs}
 use Rattle.steps.specs.Works.{Swept}
 use Rattle.search.specs.declared.places.Places.{Places}
 use Rattle.search.specs.Assigned.{Assigned}
@@ -55,14 +54,6 @@ chosen {R = R} w {v = v} {e = e} {e' = e'} {x = x} {r = r} d t a h =
       right = λ y k. subst (λ (z : Bool). Says z (Void w e v)) (h y k) says;
     }
 
--- the first call is refused
-pub unfixed : {R : Rooms} (w : Places) {v : ℕ} {e e' : View R.Shape} {f : EngineFault} → Does {A = Unit {0}} R (Op.fix w.half w.differing v false) tt e e' (Err f) → Chooses R w v e e' (Err f)
-unfixed w {v = v} {f = f} d = record {
-  row = λ y s. stop (row d) (λ rest. Op.empty w.half ∷ arm_steps w v y rest);
-  some = (true, stop (row d) (λ rest. Op.empty w.half ∷ arm_steps w v true rest));
-  right = λ y h. let z : ◌≡◌ {A = ℕ} 0 1 = cc in absurd (omega arith);
-}
-
 -- bits that agree up to k do as well
 pub trail_ext : (R : Rooms) (w : Places) (s t : Bits) (k : ℕ) (e e' : View R.Shape) → ((v : ℕ) → 1 ≤ v → v ≤ k → s v ≡ t v) → Trail R w s k e e' → Trail R w t k e e'
 trail_ext R w s t zero e e' h p = p
@@ -81,15 +72,6 @@ trail_more R w s t (suc j) k e m e' x here from to low p y c =
       λ u a b. assigned_off s t (suc j) x y u (omega arith) b (λ q. omega arith) ∙ low u (omega arith) b,
       rw here (m, trail_ext R w (bit_at s) (bit_at t) j e m (λ v a b. sym (assigned_off s t (suc j) x y v a (omega arith) (λ q. omega arith))) (rw before at p), subst (λ (y : Bool). Chooses R w (suc j) m e' (Ok y)) (sym mine) c),
     )
-
-zeros_at : (n i : ℕ) → get_or {A = ℕ} (replicate n 0) i 0 ≡ 0
-zeros_at zero i = refl
-zeros_at (suc n) zero = refl
-zeros_at (suc n) (suc i) = zeros_at n i
-
--- no bit is set at first
-pub zero_bits : (u : ℕ) → bit_at (replicate 18 0) u ≡ false
-zero_bits u = rw (zeros_at 18 ((u - 1) / 8), zero-div (2 ^ (7 - (u - 1) % 8))) refl
 
 pub clear_made : {R : Rooms} {d : ℕ} {e e' : View R.Shape} {u : Unit {0}} → Does R (Op.clear d) tt e e' (Ok u) → Ran {A = Unit {0}} R (λ rest. Op.clear d ∷ rest) e e' (Ok tt)
 clear_made d = retell (row d) tt

@@ -6,7 +6,9 @@ use engine::assignment::Assignment;
 
 // Variable v, which is 0, becomes this bit.
 pub(crate) fn assign(bits: &mut Assignment, v: u8, bit: bool)
-    requires { (1 ≤ v) × ((v ≤ 144) × (bit_at bits.old v ≡ false)) }
+    requires from { 1 ≤ v }
+    requires to { v ≤ 144 }
+    requires unset { bit_at bits.old v ≡ false }
     ensures { Assigned bits.old v bit bits.new }
 {
     if bit {

@@ -4,4 +4,4 @@ use Rattle.search.proofs.Bytes.{raised}
 use Rattle.search.proofs.bits.assign.Goals as goal
 
 pub returns-then-bit : goal.returns-then-bit
-returns-then-bit c u a b = rw (c.if-bit.true, one_shl (7 - (c.args.v - 1) % 8) 8 (omega arith)) (raised c.args.bits.now c.args.v c.requires.0 c.requires.1.0 (search rules) u a b)
+returns-then-bit c u a b = rw (c.if-bit.true, one_shl (7 - (c.args.v - 1) % 8) 8 (omega arith)) (raised c.args.bits.now c.args.v c.requires.from c.requires.to (search rules) u a b)
