@@ -1,10 +1,9 @@
 -- Single bits of a byte.
 use Rattle.std.proofs.Common.{◌≡◌, ℕ, zero, suc, ◌-◌, ◌/◌, ◌%◌, ◌^◌, ◌<◌, ◌≤◌, Bool, true, false, cond, eqb, ◌⊎◌, List, length, get_or, set, sym, refl, ap, ◌∙◌, inl, inr, arith, get_or-set_other, get_or-set_same, eq-eqb, ne_eqb, eqb-true}
 use lib.Bits.{bit_or, or_zero_r}
-use borrow.Author.Tests.{both_ways}
+use Rattle.std.proofs.lemmas.Bool.{cases_eq}
 use Rattle.std.proofs.lemmas.Nat.{or_shr, or_mod}
 use Rattle.engine.specs.Ops.{bit_at}
-use Rattle.engine.proofs.Puts.{by_eq}
 use Rattle.engine.proofs.Tables.{each, each_at}
 use Rattle.search.specs.Assigned.{Assigned}
 
@@ -30,7 +29,7 @@ raised_bit b j k h l = ap (λ x. x % 2) (or_shr b (2 ^ j) k) ∙ or_mod (b / 2 ^
     go false = or_zero_r ((b / 2 ^ k) % 2)
 
 pub raised : (s : List ℕ) (v : ℕ) → 1 ≤ v → v ≤ 144 → length s ≡ 18 → Assigned s v true (set s ((v - 1) / 8) (bit_or (get_or s ((v - 1) / 8) 0) (2 ^ (7 - (v - 1) % 8))))
-raised s v from to long u a b = go (by_eq ((u - 1) / 8) ((v - 1) / 8))
+raised s v from to long u a b = go (cases_eq ((u - 1) / 8) ((v - 1) / 8))
   where
     at : ℕ
     at = (v - 1) / 8
@@ -47,12 +46,10 @@ raised s v from to long u a b = go (by_eq ((u - 1) / 8) ((v - 1) / 8))
         pick true = refl
         pick false = ap (λ i. eqb ((get_or s i 0 / 2 ^ (7 - (u - 1) % 8)) % 2) 1) (sym e)
 
-    go : ((u - 1) / 8 ≡ (v - 1) / 8) ⊎ (eqb ((u - 1) / 8) ((v - 1) / 8) ≡ false) → bit_at (set s at byte) u ≡ cond (eqb u v) true (bit_at s u)
-    go (inl e) = same (here (by_eq u v)) e
+    go : ((u - 1) / 8 ≡ (v - 1) / 8) ⊎ ((u - 1) / 8 ≡ (v - 1) / 8 → ⊥) → bit_at (set s at byte) u ≡ cond (eqb u v) true (bit_at s u)
+    go (inl e) = same (here (cases_eq u v)) e
       where
-        here : (u ≡ v) ⊎ (eqb u v ≡ false) → eqb (7 - (v - 1) % 8) (7 - (u - 1) % 8) ≡ eqb u v
+        here : (u ≡ v) ⊎ (u ≡ v → ⊥) → eqb (7 - (v - 1) % 8) (7 - (u - 1) % 8) ≡ eqb u v
         here (inl q) = eq-eqb (7 - (v - 1) % 8) (7 - (u - 1) % 8) (omega arith) ∙ sym (eq-eqb u v q)
-        here (inr n) = ne_eqb (7 - (v - 1) % 8) (7 - (u - 1) % 8) (λ q. both_ways (eqb u v) n (eq-eqb u v (omega arith))) ∙ sym n
-    go (inr n) =
-        let apart : (u - 1) / 8 ≡ at → ⊥ = λ q. both_ways (eqb ((u - 1) / 8) at) n (eq-eqb ((u - 1) / 8) at q) in
-        ap (λ x. eqb ((x / 2 ^ (7 - (u - 1) % 8)) % 2) 1) (get_or-set_other s at ((u - 1) / 8) byte 0 apart) ∙ rw (ne_eqb u v (λ q. apart (ap (λ x. (x - 1) / 8) q))) refl
+        here (inr n) = ne_eqb (7 - (v - 1) % 8) (7 - (u - 1) % 8) (λ q. n (omega arith)) ∙ sym (ne_eqb u v n)
+    go (inr n) = ap (λ x. eqb ((x / 2 ^ (7 - (u - 1) % 8)) % 2) 1) (get_or-set_other s at ((u - 1) / 8) byte 0 n) ∙ rw (ne_eqb u v (λ q. n (ap (λ x. (x - 1) / 8) q))) refl

@@ -1,12 +1,11 @@
 -- Two books are alike, or there is a least frame that they judge differently.
-use Rattle.std.proofs.Common.{◌≡◌, ℕ, zero, suc, ◌+◌, ◌<◌, ◌≤◌, Bool, true, false, eqb, ◌⊎◌, List, sym, refl, ap, ◌∙◌, inl, inr, arith, eq-eqb}
-use borrow.Author.Tests.{both_ways}
+use Rattle.std.proofs.Common.{◌≡◌, ℕ, zero, suc, ◌+◌, ◌<◌, ◌≤◌, Bool, true, false, ◌⊎◌, List, sym, refl, ap, ◌∙◌, inl, inr, arith}
+use Rattle.std.proofs.lemmas.Bool.{cases_eq, cases_order, true≢false}
 use Rattle.engine.specs.Ops.{Bits, held}
-use Rattle.engine.proofs.Puts.{by_eq}
 use Rattle.kind.specs.declared.rule.Rule.{Rule}
 use Rattle.kind.specs.Rules.{judged}
 use Rattle.search.specs.Least.{Below, Least}
-use Rattle.search.proofs.Seeking.{flat, under, held_at, held_off, apart, apart_true, apart_false, true_apart, judged_local}
+use Rattle.search.proofs.Seeking.{held_at, held_off, apart, apart_true, apart_false, true_apart, judged_local}
 
 abbrev Agree : ℕ → Bits → Bits → Type 0
 Agree v p t = (u : ℕ) → 1 ≤ u → u ≤ v → p u ≡ t u
@@ -17,11 +16,10 @@ Scan d n v p = ((t : Bits) → Agree v p t → d t ≡ false) ⊎ ((q : Bits) ×
 
 -- agreeing at one variable more
 agree_more : (v : ℕ) (p t : Bits) (b : Bool) → Agree v p t → t (suc v) ≡ b → Agree (suc v) (held p (suc v) b) t
-agree_more v p t b a e u x y = go (by_eq u (suc v))
-  where
-    go : (u ≡ suc v) ⊎ (eqb u (suc v) ≡ false) → held p (suc v) b u ≡ t u
-    go (inl q) = ap (held p (suc v) b) q ∙ held_at p (suc v) b ∙ sym e ∙ ap t (sym q)
-    go (inr m) = let ne : u ≡ suc v → ⊥ = λ q. both_ways (eqb u (suc v)) m (eq-eqb u (suc v) q) in held_off p (suc v) u b ne ∙ a u x (under u v y ne)
+agree_more v p t b a e u x y = elim (cases_eq u (suc v)) as (λ _. held p (suc v) b u ≡ t u) [
+  | inl q ↦ ap (held p (suc v) b) q ∙ held_at p (suc v) b ∙ sym e ∙ ap t (sym q)
+  | inr n ↦ held_off p (suc v) u b n ∙ a u x (omega arith)
+]
 
 agree_less : (v : ℕ) (p t : Bits) (b : Bool) → Agree (suc v) (held p (suc v) b) t → Agree v p t
 agree_less v p t b a u x y = sym (held_off p (suc v) u b (λ e. omega arith)) ∙ a u x (omega arith)
@@ -32,7 +30,7 @@ module _ (d : Bits → Bool) (n : ℕ) (local : (s t : Bits) → Agree n s t →
     where
       go : (b : Bool) → d p ≡ b → Scan d n v p
       go false z = inl (λ t a. local t p (λ u x y. sym (a u x (omega arith))) ∙ z)
-      go true z = inr (p, (λ u x y. refl), z, λ t a k b. flat (sym b.high ∙ a b.at b.from (omega (arith, b.to)) ∙ b.low))
+      go true z = inr (p, (λ u x y. refl), z, λ t a k b. true≢false (sym b.high ∙ a b.at b.from (omega (arith, b.to)) ∙ b.low))
   scan (suc m) v e p = go (scan m (suc v) (omega arith) (held p (suc v) false)) (scan m (suc v) (omega arith) (held p (suc v) true))
     where
       bit : (q : Bits) (b : Bool) → Agree (suc v) (held p (suc v) b) q → q (suc v) ≡ b
@@ -42,21 +40,12 @@ module _ (d : Bits → Bool) (n : ℕ) (local : (s t : Bits) → Agree n s t →
       go (inr (q, a, k, low)) other = inr (q, agree_less v p q false a, k, λ t at dt b. split t at dt b (t (suc v)) refl)
         where
           above : (t : Bits) → Agree v p t → t (suc v) ≡ true → Below n t q → ⊥
-          above t at high b = place (by_eq b.at (suc v))
+          above t at high b = side (cases_order b.at (suc v))
             where
-              place : (b.at ≡ suc v) ⊎ (eqb b.at (suc v) ≡ false) → ⊥
-              place (inl s) = flat (sym b.high ∙ ap q s ∙ bit q false a)
-              place (inr m) = side (lower b.at (suc v) (λ s. both_ways (eqb b.at (suc v)) m (eq-eqb b.at (suc v) s)))
-                where
-                  lower : (x y : ℕ) → (x ≡ y → ⊥) → (x < y) ⊎ (y < x)
-                  lower zero zero h = absurd (h refl)
-                  lower zero (suc y) h = inl (omega arith)
-                  lower (suc x) zero h = inr (omega arith)
-                  lower (suc x) (suc y) h = elim (lower x y (λ z. h (ap suc z))) as (λ _. (suc x < suc y) ⊎ (suc y < suc x)) [ inl z ↦ inl (omega arith) | inr z ↦ inr (omega arith) ]
-
-                  side : (b.at < suc v) ⊎ (suc v < b.at) → ⊥
-                  side (inl z) = flat (sym b.high ∙ sym (agree_less v p q false a b.at b.from (omega arith)) ∙ at b.at b.from (omega arith) ∙ b.low)
-                  side (inr z) = flat (sym high ∙ b.before (suc v) (omega arith) z ∙ bit q false a)
+              side : (b.at ≡ suc v) ⊎ ((b.at < suc v) ⊎ (suc v < b.at)) → ⊥
+              side (inl s) = true≢false (sym b.high ∙ ap q s ∙ bit q false a)
+              side (inr (inl z)) = true≢false (sym b.high ∙ sym (agree_less v p q false a b.at b.from (omega arith)) ∙ at b.at b.from (omega arith) ∙ b.low)
+              side (inr (inr z)) = true≢false (sym high ∙ b.before (suc v) (omega arith) z ∙ bit q false a)
 
           split : (t : Bits) → Agree v p t → d t ≡ true → Below n t q → (x : Bool) → t (suc v) ≡ x → ⊥
           split t at dt b false z = low t (agree_more v p t false at z) dt b
@@ -64,7 +53,7 @@ module _ (d : Bits → Bool) (n : ℕ) (local : (s t : Bits) → Agree n s t →
       go (inl none) (inr (q, a, k, low)) = inr (q, agree_less v p q true a, k, λ t at dt b. split t at dt b (t (suc v)) refl)
         where
           split : (t : Bits) → Agree v p t → d t ≡ true → Below n t q → (x : Bool) → t (suc v) ≡ x → ⊥
-          split t at dt b false z = flat (sym dt ∙ none t (agree_more v p t false at z))
+          split t at dt b false z = true≢false (sym dt ∙ none t (agree_more v p t false at z))
           split t at dt b true z = low t (agree_more v p t true at z) dt b
       go (inl none) (inl neither) = inl (λ t at. split t at (t (suc v)) refl)
         where

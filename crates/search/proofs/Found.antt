@@ -1,25 +1,24 @@
 -- What the calls of a compare come to.
-use Rattle.std.proofs.Common.{◌≡◌, ℕ, zero, suc, ◌≤◌, Bool, true, false, not, ◌&&◌, eqb, ◌⊎◌, List, [], ◌∷◌, Some, None, Ok, Err, sym, refl, ap, ◌∙◌, subst, inl, inr, arith, eq-eqb, le-leb}
+use Rattle.std.proofs.Common.{◌≡◌, ℕ, zero, suc, ◌≤◌, Bool, true, false, ◌⊎◌, List, [], ◌∷◌, Some, None, Ok, Err, sym, refl, ap, ◌∙◌, subst, inl, inr, arith, le-leb}
 use mathlib.Core.Path.{fun_ext}
-use borrow.Author.Tests.{both_ways}
+use Rattle.std.proofs.lemmas.Bool.{cases_eq, true_from_ne_false, true≢false}
 use Rattle.engine.specs.declared.fault.EngineFault.{EngineFault}
 use Rattle.engine.specs.declared.fault.EngineFault.TheVariants.{Room}
 use Rattle.engine.specs.Ops.{Op, Regs, Bits, put, held, bit_at}
 use Rattle.engine.specs.Does.{Rooms, View, Says, Tests}
 use Rattle.engine.specs.Rows.{Ran, ran}
 use Rattle.engine.proofs.Rows.{row, regs_after, ran_regs}
-use Rattle.engine.proofs.Tidy.{tidy_all, ran_tidy}
-use Rattle.engine.proofs.Puts.{by_eq, put_self, put_twice}
+use Rattle.engine.proofs.Tidy.{tidy_all}
+use Rattle.engine.proofs.Puts.{put_self, put_twice}
 use Rattle.kind.specs.declared.rule.Rule.{Rule}
 use Rattle.kind.specs.Rules.{judged}
-use Rattle.steps.specs.Steps.{sweep_steps}
 use Rattle.steps.specs.Meaning.{meaning}
-use Rattle.steps.proofs.Adding.{own, swept_regs}
+use Rattle.steps.proofs.Adding.{own, swept_back}
 use Rattle.search.specs.Steps.{places, pick_steps, hunt_steps, differ_steps, alike_steps, least_steps}
 use Rattle.search.specs.Least.{Below, Least}
 use Rattle.search.specs.Seeks.{Seeks, Finds, Void}
 use Rattle.search.proofs.Picks.{test_says}
-use Rattle.search.proofs.Seeking.{holding, Chosen, left, lowest, right_bit, as_least, flat, under, hunt_regs, differ_regs, apart, apart_true, apart_false, true_apart, judged_local, hold_in, trail_ran, trail_regs, trail_chosen}
+use Rattle.search.proofs.Seeking.{holding, Chosen, left, lowest, right_bit, as_least, hunt_regs, differ_regs, apart, apart_true, apart_false, true_apart, judged_local, hold_in, trail_ran, trail_regs, trail_chosen}
 
 pub hunt_ext : (p q : Bits) (k : ℕ) (rest : List Op) → ((v : ℕ) → 1 ≤ v → v ≤ k → p v ≡ q v) → hunt_steps places p k rest ≡ hunt_steps places q k rest
 hunt_ext p q zero rest h = refl
@@ -27,11 +26,11 @@ hunt_ext p q (suc k) rest h = ap (λ (x : Bool). hunt_steps places p k (pick_ste
 
 hunt_upto : (p : Bits) (j n : ℕ) → j ≤ n → (rest : List Op) → (more : List Op) × (hunt_steps places p n rest ≡ hunt_steps places p j more)
 hunt_upto p j zero h rest = (rest, let e : ◌≡◌ {A = ℕ} 0 j = omega arith in ap (λ (x : ℕ). hunt_steps places p x rest) e)
-hunt_upto p j (suc n) h rest = go (λ l. hunt_upto p j n l (pick_steps places (suc n) (p (suc n)) rest)) (by_eq j (suc n))
+hunt_upto p j (suc n) h rest = go (λ l. hunt_upto p j n l (pick_steps places (suc n) (p (suc n)) rest)) (cases_eq j (suc n))
   where
-    go : (j ≤ n → (more : List Op) × (hunt_steps places p (suc n) rest ≡ hunt_steps places p j more)) → (j ≡ suc n) ⊎ (eqb j (suc n) ≡ false) → (more : List Op) × (hunt_steps places p (suc n) rest ≡ hunt_steps places p j more)
+    go : (j ≤ n → (more : List Op) × (hunt_steps places p (suc n) rest ≡ hunt_steps places p j more)) → (j ≡ suc n) ⊎ (j ≡ suc n → ⊥) → (more : List Op) × (hunt_steps places p (suc n) rest ≡ hunt_steps places p j more)
     go i (inl e) = (rest, ap (λ (x : ℕ). hunt_steps places p x rest) (sym e))
-    go i (inr m) = i (under j n h (λ e. both_ways (eqb j (suc n)) m (eq-eqb j (suc n) e)))
+    go i (inr m) = i (omega arith)
 
 tidy_pick : (n v : ℕ) (x : Bool) (rest : List Op) → 1 ≤ v → v ≤ n → tidy_all own n rest ≡ true → tidy_all own n (pick_steps places v x rest) ≡ true
 tidy_pick n v true rest h k t = rw (le-leb 1 v h, le-leb v n k) t
@@ -42,17 +41,7 @@ tidy_hunt p n zero rest h t = t
 tidy_hunt p n (suc k) rest h t = tidy_hunt p n k (pick_steps places (suc k) (p (suc k)) rest) (omega arith) (tidy_pick n (suc k) (p (suc k)) rest (omega arith) h t)
 
 alike_apart : (f g : Bits → Bool) (s : Bits) → f s ≡ g s → apart f g s ≡ false
-alike_apart f g s h = go (f s) (g s) h
-  where
-    go : (a b : Bool) → a ≡ b → not (not (a && not b) && not (not a && b)) ≡ false
-    go true true k = refl
-    go true false k = absurd (flat k)
-    go false true k = absurd (flat (sym k))
-    go false false k = refl
-
-be_true : (b : Bool) → (b ≡ false → ⊥) → b ≡ true
-be_true true h = refl
-be_true false h = absurd (h refl)
+alike_apart f g s h = grind arith
 
 module _ (R : Rooms) (n : ℕ) (live draft : List Rule) (e : View R.Shape) (means : e.regs ≡ meaning n live draft) where
   -- after the differing frames was made
@@ -118,7 +107,7 @@ module _ (R : Rooms) (n : ℕ) (live draft : List Rule) (e : View R.Shape) (mean
         local s = rw (judged_local n live (holding q n s) q (λ v a b. hold_in q n s v a b), judged_local n draft (holding q n s) q (λ v a b. hold_in q n s v a b)) refl
 
         here : d q ≡ true
-        here = be_true (d q) (λ z. left d q n (λ all. flat (sym ((says_alike mid at false p t).1 all))) chosen (λ s. local s ∙ z))
+        here = true_from_ne_false (d q) (λ z. left d q n (λ all. true≢false (sym ((says_alike mid at false p t).1 all))) chosen (λ s. local s ∙ z))
 
     -- what a refused search did, as a row of calls that write scratch registers only
     seek_tidy : (f : EngineFault) → Seeks R n e e' (Err f) → (ops : List Op) × (ran R e ops ≡ (e', Err f)) × (tidy_all own n ops ≡ true)
@@ -135,7 +124,7 @@ module _ (R : Rooms) (n : ℕ) (live draft : List Rule) (e : View R.Shape) (mean
     pub seek_alike : (f : EngineFault) → ((s : Bits) → judged n live s ≡ judged n draft s) → Seeks R n e e' (Err f) → ran R e alike_steps ≡ (e', Err f)
     seek_alike f same (inl p) = p.goes (Op.empty 9 ∷ (Op.clear 9 ∷ []))
     seek_alike f same (inr (inl (mid, p, t))) = p.goes (Op.empty 9 ∷ (Op.clear 9 ∷ [])) ∙ (row t.does).goes (Op.clear 9 ∷ [])
-    seek_alike f same (inr (inr (mid, at, p, t, h))) = absurd (flat (sym ((says_alike mid at false p t).1 (λ s. alike_apart (judged n live) (judged n draft) s (same s)))))
+    seek_alike f same (inr (inr (mid, at, p, t, h))) = absurd (true≢false (sym ((says_alike mid at false p t).1 (λ s. alike_apart (judged n live) (judged n draft) s (same s)))))
 
     -- a refused search of books of which q is the least frame
     pub seek_least : (f : EngineFault) (q : Bits) → Least n (judged n live) (judged n draft) q → Seeks R n e e' (Err f) → ran R e (least_steps n q) ≡ (e', Err f)
@@ -179,9 +168,4 @@ module _ (R : Rooms) (n : ℕ) (live draft : List Rule) (e : View R.Shape) (mean
         upto = hunt_upto q (suc k) n l (Op.clear 9 ∷ [])
 
   pub err_regs : (e' : View R.Shape) (f : EngineFault) → e.vars ≡ n → Finds R n e e' (Err f) → (f ≡ Room) × (e'.vars ≡ e.vars) × (e'.regs ≡ meaning n live draft)
-  err_regs e' f vars (at, seeks, swept) =
-      let (ops, h, tidy) = seek_tidy at f seeks in
-      let t = ran_tidy own R e at ops (Err f) h (subst (λ (m : ℕ). tidy_all own m ops ≡ true) (sym vars) tidy) in
-      let w = ran_regs R at e' (sweep_steps []) (swept.goes []) in
-      let same : (x : ℕ) → own x ≡ false → at.regs x ≡ meaning n live draft x = λ x o. t.2 x o ∙ ap (λ (m : Regs). m x) means in
-      (t.0, w.0 ∙ t.1, w.1 ∙ fun_ext (swept_regs n live draft at.regs same))
+  err_regs e' f vars (at, seeks, swept) = let (ops, h, tidy) = seek_tidy at f seeks in swept_back R n live draft e at e' ops f means vars h tidy swept

@@ -2,18 +2,23 @@
 use Rattle.std.specs.Prelude.{ℕ, zero, suc, Bool, true, false, cond, List, [], ◌∷◌}
 use Rattle.engine.specs.Ops.{Op, Bits}
 use Rattle.search.specs.declared.places.Places.{Places}
+use Rattle.search.specs.declared.places.Side.{Side}
 
 -- the registers of a filter's comparison: 3 to 10
 abbrev pub places : Places
 places = record { inverse = 3; former = 4; nonformer = 5; latter = 6; nonlatter = 7; alike = 8; differing = 9; half = 10 }
 
+-- the complement of the frames on one side
+abbrev pub side_steps : Places → Side → List Op → List Op
+side_steps w x rest = Op.negate w.inverse x.without ∷ (Op.meet x.frames x.left x.right ∷ (Op.clear w.inverse ∷ (Op.negate x.others x.frames ∷ (Op.clear x.frames ∷ rest))))
+
 -- ¬(a ∧ ¬b)
 abbrev pub former_steps : Places → ℕ → ℕ → List Op → List Op
-former_steps w a b rest = Op.negate w.inverse b ∷ (Op.meet w.former a w.inverse ∷ (Op.clear w.inverse ∷ (Op.negate w.nonformer w.former ∷ (Op.clear w.former ∷ rest))))
+former_steps w a b = side_steps w record { without = b; left = a; right = w.inverse; frames = w.former; others = w.nonformer }
 
 -- ¬(¬a ∧ b)
 abbrev pub latter_steps : Places → ℕ → ℕ → List Op → List Op
-latter_steps w a b rest = Op.negate w.inverse a ∷ (Op.meet w.latter w.inverse b ∷ (Op.clear w.inverse ∷ (Op.negate w.nonlatter w.latter ∷ (Op.clear w.latter ∷ rest))))
+latter_steps w a b = side_steps w record { without = a; left = w.inverse; right = b; frames = w.latter; others = w.nonlatter }
 
 -- the complement of the conjunction of the two
 abbrev pub join_steps : Places → List Op → List Op

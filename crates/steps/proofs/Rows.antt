@@ -31,15 +31,12 @@ keep_pass w m b r h p = record { goes = λ rest. rw h (p.goes rest) }
 pub tested : {R : Rooms} {w : Scratch} {rule : Rule} {n : ℕ} {e mid at e' : View R.Shape} {x : Bool} {u v : Unit {0}} → Ran R (find_steps w 2 rule n) e mid (Ok u) → Tests R w.fresh mid at (Ok x) → Ran R (keep_steps w 2 1 rule) at e' (Ok v) → Works R w rule n e e' (Ok x)
 tested {R = R} {w = w} {mid = mid} {x = x} p t q = record {
   row = retell (next p (next (row t.does) q)) x;
-  idle = λ y h. (mid, p.goes [], let k : t.yes_no ≡ y = sym (told_value x t.yes_no (regs_in (Op.empty w.fresh)) true (R.full mid.shape (Op.empty w.fresh)) t.does.told) ∙ same x y h in rw k at t.says);
+  idle = λ y h. (mid, p.goes [], let k : t.yes_no ≡ y = sym (told_value x t.yes_no (regs_in (Op.empty w.fresh)) true (R.full mid.shape (Op.empty w.fresh)) t.does.told) ∙ cc in rw k at t.says);
 }
-  where
-    same : (x y : Bool) → ◌≡◌ {A = Result Bool EngineFault} (Ok x) (Ok y) → x ≡ y
-    same x y h = cc
 
 -- an add that is refused, before its test is answered or after it
 pub refused : {A : Type 0} {R : Rooms} {w : Scratch} {rule : Rule} {n : ℕ} {e e' : View R.Shape} {f : EngineFault} → Ran {A = A} R (work_steps w rule n) e e' (Err f) → Works R w rule n e e' (Err f)
 refused {f = f} p = record {
   row = stop p (λ rest. rest);
-  idle = λ y h. let z : ◌≡◌ {A = ℕ} 0 1 = cc in absurd (omega arith);
+  idle = λ y h. cc;
 }

@@ -14,6 +14,11 @@ pub record Works (R : Rooms) (w : Scratch) (rule : Rule) (n : ℕ) (e e' : View 
   -- the test came after the calls that lead to the view mid
   pub idle : (x : Bool) → r ≡ Ok x → (mid : View R.Shape) × (ran R e (find_steps w 2 rule n []) ≡ (mid, Ok tt)) × Says x ((s : Bits) → mid.regs w.fresh s ≡ false)
 
+-- after a refusal the scratch registers were cleared, and nothing was done otherwise
+abbrev pub Swept : {A : Type 0} (R : Rooms) → View R.Shape → View R.Shape → Result A EngineFault → Type 0
+Swept R at e' (Ok x) = e' ≡ at
+Swept R at e' (Err f) = Ran {A = Unit {0}} R sweep_steps at e' (Ok tt)
+
 -- all the calls of an add, or those up to a refusal and the clearing after it
 abbrev pub Admits : (R : Rooms) → Rule → ℕ → View R.Shape → View R.Shape → Result Bool EngineFault → Type 0
 Admits R rule n e e' (Ok x) = (at : View R.Shape) × Works R scratch rule n e at (Ok x) × Ran {A = Unit {0}} R (store_steps rule) at e' (Ok tt)

@@ -82,9 +82,9 @@ impl Scratch {
         Ok(())
     }
 
-    // Register d becomes a or b, and b becomes false.
-    fn join<E: Engine>(self, e: &mut E, d: u8, a: u8, b: u8) -> Result<(), EngineFault>
-        ensures { Ran E.Engine.rooms (join_steps self d a b) (E.Engine.view e.old) (E.Engine.view e.new) result }
+    // Register into becomes a or b, and b becomes false.
+    fn join<E: Engine>(self, e: &mut E, into: u8, a: u8, b: u8) -> Result<(), EngineFault>
+        ensures { Ran E.Engine.rooms (join_steps self into a b) (E.Engine.view e.old) (E.Engine.view e.new) result }
     {
         e.negate(self.left, a)?;
         e.negate(self.right, b)?;
@@ -92,43 +92,43 @@ impl Scratch {
         e.meet(self.both, self.left, self.right)?;
         e.clear(self.left)?;
         e.clear(self.right)?;
-        e.negate(d, self.both)?;
+        e.negate(into, self.both)?;
         e.clear(self.both)
     }
 
-    // The frames that the rule matches, and those of them that are not in register m.
+    // The frames that the rule matches, and those of them that are not in register earlier.
     pub(crate) fn find<E: Engine>(
         self,
         e: &mut E,
         rule: &Rule,
         n: u8,
-        m: u8,
+        earlier: u8,
     ) -> Result<(), EngineFault>
-        ensures { Ran E.Engine.rooms (find_steps self m rule.now n) (E.Engine.view e.old) (E.Engine.view e.new) result }
+        ensures { Ran E.Engine.rooms (find_steps self earlier rule.now n) (E.Engine.view e.old) (E.Engine.view e.new) result }
     {
         self.build(e, rule, n)?;
-        e.negate(self.left, m)?;
+        e.negate(self.left, earlier)?;
         e.meet(self.fresh, self.rule, self.left)?;
         e.clear(self.left)
     }
 
-    // The frames matched and, for block, blocked with the rule, from those matched (m) and blocked (b) before it.
+    // The frames matched and, for block, blocked with the rule, from those matched and blocked before it.
     #[tactic(auto, using(crate::proofs::Rows::keep_pass))]
     pub(crate) fn keep<E: Engine>(
         self,
         e: &mut E,
         rule: &Rule,
-        m: u8,
-        b: u8,
+        matched: u8,
+        blocked: u8,
     ) -> Result<(), EngineFault>
-        ensures { Ran E.Engine.rooms (keep_steps self m b rule.now) (E.Engine.view e.old) (E.Engine.view e.new) result }
+        ensures { Ran E.Engine.rooms (keep_steps self matched blocked rule.now) (E.Engine.view e.old) (E.Engine.view e.new) result }
     {
         if rule.action.is_block() {
-            self.join(e, self.matched, m, self.rule)?;
-            self.join(e, self.blocked, b, self.fresh)
+            self.join(e, self.matched, matched, self.rule)?;
+            self.join(e, self.blocked, blocked, self.fresh)
         } else {
             e.clear(self.fresh)?;
-            self.join(e, self.matched, m, self.rule)
+            self.join(e, self.matched, matched, self.rule)
         }
     }
 

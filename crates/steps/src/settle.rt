@@ -1,7 +1,8 @@
-ghost use Rattle.std.specs.Prelude.{◌≡◌, Ok, Err, IfOk, IfErr};
+ghost use Rattle.std.specs.Prelude.{◌≡◌, Ok};
 ghost use Rattle.std.specs.Fn.{FnOnceReturnsAtMut};
 ghost use Rattle.engine.specs.Rows.{Ran};
 ghost use Rattle.steps.specs.Steps.{stored_steps, sweep_steps};
+ghost use Rattle.steps.specs.Works.{Swept};
 
 use crate::scratch::{BLOCKED, MATCHED, SCRATCH};
 use engine::calls::Engine;
@@ -45,8 +46,7 @@ pub fn or_swept<E: Engine, T, F: FnOnce(&mut E) -> Result<T, EngineFault>>(
     work: F,
 ) -> Result<T, EngineFault>
     requires { F.IsAlwaysCallable work }
-    ensures answered { IfOk result (λ x. FnOnceReturnsAtMut F.FnOnce work e.old (Ok x) e.new) }
-    ensures refused { IfErr result (λ fault. (at : E) × FnOnceReturnsAtMut F.FnOnce work e.old (Err fault) at × Ran {A = Unit {0}} E.Engine.rooms sweep_steps (E.Engine.view at) (E.Engine.view e.new) (Ok tt)) }
+    ensures { (at : E) × FnOnceReturnsAtMut F.FnOnce work e.old result at × Swept E.Engine.rooms (E.Engine.view at) (E.Engine.view e.new) result }
 {
     match work(e) {
         Ok(x) => Ok(x),

@@ -1,21 +1,22 @@
 use Rattle.std.proofs.Common.{inl, inr}
 use Rattle.std.proofs.lemmas.Result.{err_from_is_err_and}
 use Rattle.engine.proofs.Rows.{retell}
-use Rattle.search.proofs.Picks.{clear_made}
+use Rattle.search.proofs.Picks.{clear_made, vars_kept}
+use Rattle.search.proofs.least.seek.Goals.{then-branch, else-branch+in_ok-hunt}
 use Rattle.search.proofs.least.seek.Goals as goal
 
-pub returns-in_err-alike : goal.returns-in_err-alike
-returns-in_err-alike g c =
-    let p = err_from_is_err_and c.from_residual-in_err-alike.result c.from_residual-in_err-alike.ensures.1 in
-    rw (p.1, p.2) (inr (inl (_, retell c.in_ok-differ.ensures tt, c.in_err-alike.ensures)))
+pub returns-in_err-empty : goal.returns-in_err-empty
+returns-in_err-empty g c =
+    let p = err_from_is_err_and c.from_residual-in_err-empty.result c.from_residual-in_err-empty.ensures.1 in
+    rw (p.1, p.2) (inr (inl (_, retell c.in_ok-differ.ensures tt, c.in_err-empty.ensures)))
 
-pub returns-in_err-bits : goal.returns-in_err-bits
-returns-in_err-bits g c =
-    let p = err_from_is_err_and c.from_residual-in_err-bits.result c.from_residual-in_err-bits.ensures.1 in
-    rw (p.1, p.2) (inr (inr (_, _, retell c.in_ok-differ.ensures tt, rw c.if-alike.false at c.in_ok-alike.ensures, c.in_err-bits.ensures)))
+pub returns-in_err-hunt : goal.returns-in_err-hunt
+returns-in_err-hunt g c =
+    let p = err_from_is_err_and c.from_residual-in_err-hunt.result c.from_residual-in_err-hunt.ensures.1 in
+    rw (p.1, p.2) (inr (inr (_, _, retell c.in_ok-differ.ensures tt, rw c.if-branch.false at c.in_ok-empty.ensures, rw (vars_kept c.in_ok-differ.ensures c.in_ok-empty.ensures) at c.in_err-hunt.ensures)))
 
-pub returns-in_ok-clear : goal.returns-in_ok-clear
-returns-in_ok-clear g c = (_, _, retell c.in_ok-differ.ensures tt, rw c.if-alike.true at c.in_ok-alike.ensures, clear_made c.in_ok-clear.ensures)
-
-pub returns-in_ok-clear-2 : goal.returns-in_ok-clear-2
-returns-in_ok-clear-2 g c = (_, _, _, retell c.in_ok-differ.ensures tt, rw c.if-alike.false at c.in_ok-alike.ensures, c.in_ok-bits.ensures, clear_made c.in_ok-clear-2.ensures)
+pub returns : goal.returns
+returns g c = elim c.if-branch.branch [
+  | then-branch w ↦ rw w.found-is (_, _, retell c.in_ok-differ.ensures tt, rw w.if-branch.true at c.in_ok-empty.ensures, rw w.e-is at (clear_made c.in_ok-clear.ensures))
+  | else-branch+in_ok-hunt w ↦ rw w.found-is (_, _, _, retell c.in_ok-differ.ensures tt, rw w.if-branch.false at c.in_ok-empty.ensures, rw (vars_kept c.in_ok-differ.ensures c.in_ok-empty.ensures) at w.in_ok-hunt.ensures, rw w.e-is at (clear_made c.in_ok-clear.ensures))
+]

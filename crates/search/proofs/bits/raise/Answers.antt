@@ -1,7 +1,0 @@
-use Rattle.std.proofs.Common.{◌-◌, ◌%◌, arith, rules}
-use Rattle.std.proofs.lemmas.Nat.{one_shl}
-use Rattle.search.proofs.Bytes.{raised}
-use Rattle.search.proofs.bits.raise.Goals as goal
-
-pub returns : goal.returns
-returns c u a b = rw (one_shl (7 - (c.args.v - 1) % 8) 8 (omega arith)) (raised c.args.bits.now c.args.v c.requires.0 c.requires.1 (search rules) u a b)
