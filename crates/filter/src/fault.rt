@@ -19,6 +19,7 @@ pub enum FilterFault {
     Missing,
 }
 
+// kept: a derived From has no contract
 impl From<RuleFault> for FilterFault {
     ghost from_gives = { λ e b. b ≡ FilterFault.Rule e };
 
@@ -27,6 +28,7 @@ impl From<RuleFault> for FilterFault {
     }
 }
 
+// kept: a derived From has no contract
 impl From<FrameFault> for FilterFault {
     ghost from_gives = { λ e b. b ≡ FilterFault.Frame e };
 
@@ -35,6 +37,7 @@ impl From<FrameFault> for FilterFault {
     }
 }
 
+// kept: a derived From has no contract
 impl From<EngineFault> for FilterFault {
     ghost from_gives = { λ e b. b ≡ FilterFault.Engine e };
 

@@ -34,6 +34,7 @@ pub enum FrameFault {
     Wrong,
 }
 
+// kept: a derived From has no contract
 impl From<LineFault> for RuleFault {
     ghost from_gives = { λ e b. b ≡ RuleFault.Line e };
 
@@ -42,6 +43,7 @@ impl From<LineFault> for RuleFault {
     }
 }
 
+// kept: a derived From has no contract
 impl From<AddressFault> for RuleFault {
     ghost from_gives = { λ e b. b ≡ RuleFault.Address e };
 
@@ -50,6 +52,7 @@ impl From<AddressFault> for RuleFault {
     }
 }
 
+// kept: a derived From has no contract
 impl From<PortFault> for RuleFault {
     ghost from_gives = { λ e b. b ≡ RuleFault.Port e };
 
@@ -58,6 +61,7 @@ impl From<PortFault> for RuleFault {
     }
 }
 
+// kept: a derived From has no contract
 impl From<FlatFault> for RuleFault {
     ghost from_gives = { λ e b. b ≡ RuleFault.Flat e };
 
