@@ -1,4 +1,3 @@
-pub mod Assignments
 pub mod Puts
 pub mod Rows
 pub mod Tables

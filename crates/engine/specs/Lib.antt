@@ -1,3 +1,4 @@
 pub mod Ops
 pub mod Does
 pub mod Rows
+pub mod Register

@@ -12,9 +12,6 @@ pub fn bit(bits: &Assignment, v: u8) -> bool
     ensures { result ≡ bit_at bits.now v }
 {
     let i = v.saturating_sub(1);
-    let at = (i / 8) as usize;
-    if at >= BYTES {
-        return false;
-    }
-    (bits[at] >> (7 - i % 8)) % 2 == 1
+    bits.get((i / 8) as usize)
+        .is_some_and(|byte| (*byte >> (7 - i % 8)) % 2 == 1)
 }

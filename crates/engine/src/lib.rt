@@ -5,3 +5,4 @@
 pub mod assignment;
 pub mod calls;
 pub mod fault;
+pub mod register;
