@@ -9,6 +9,7 @@ use Rattle.std.proofs.lemmas.Nat.{shr_below, and_mask}
 use Rattle.engine.specs.Ops.{Bits, Agree, Op, Regs, put, held, within, after, bit_at, spelt}
 use Rattle.engine.specs.Does.{Does, View, Tests, answer}
 use Rattle.engine.proofs.Tables.{each}
+use Rattle.word.specs.declared.variable.Variable.{Variable}
 use Rattle.word.specs.Words.{bit, means, whole, word_regs, word_view, written, blank, roomy, table, spell, word_at}
 use Rattle.word.specs.Bits.{apart, bit_of_and, bit_of_xor, mux, shr_bit, shl_bit, low_bit, zero_bit, ones_bit, same_number, number_none, number_mod, alike, columns}
 use Rattle.word.specs.Spelling.{same_spelt, spelt_below, below_64, spelt_bit, spelt_held, spelt_spell, spelt_byte}
@@ -65,9 +66,6 @@ does op n d w ws e f wrote right told becomes = record {
   left = wrote ∙ ap (λ (g : Bits → Bool). record { vars = n; regs = put (word_regs n ws) d g; shape = tt }) right ∙ ap (λ (m : Regs). record { vars = n; regs = m; shape = tt }) (sym becomes);
 }
 
-pub copies : (n d a : ℕ) (ws : List ℕ) (e : View (Unit {0})) → d ≤ 15 → a ≤ 15 → e ≡ written (word_view n ws) d (slice_index ws a) → Does {A = Unit {0}} roomy (Op.copy d a) tt (word_view n ws) e (Ok tt)
-copies n d a ws e hd ha wrote = does (Op.copy d a) n d (slice_index ws a) ws e (word_regs n ws a) wrote (reg_at n ws a ha) (rw (le-leb d 15 hd, le-leb a 15 ha) refl) refl
-
 pub negates : (n d a m : ℕ) (ws : List ℕ) (e : View (Unit {0})) → d ≤ 15 → a ≤ 15 → m ≡ whole n → e ≡ written (word_view n ws) d (bit_xor m (slice_index ws a)) → Does {A = Unit {0}} roomy (Op.negate d a) tt (word_view n ws) e (Ok tt)
 negates n d a m ws e hd ha full wrote = does (Op.negate d a) n d (bit_xor m (slice_index ws a)) ws e (λ s. not (word_regs n ws a s)) wrote (fun_ext right) (rw (le-leb d 15 hd, le-leb a 15 ha) refl) refl
   where
@@ -76,9 +74,6 @@ negates n d a m ws e hd ha full wrote = does (Op.negate d a) n d (bit_xor m (sli
         bit_of_xor m (slice_index ws a) (spelt n s)
         ∙ ap (λ (b : Bool). apart b (means n (slice_index ws a) s)) (ap (λ (x : ℕ). means n x s) full ∙ ones_bit (2 ^ n) (spelt n s) (spelt_below n s))
         ∙ ap (λ (f : Bits → Bool). not (f s)) (reg_at n ws a ha)
-
-pub literals : (n d v w : ℕ) (ws : List ℕ) (e : View (Unit {0})) → d ≤ 15 → 1 ≤ v → v ≤ n → means n w ≡ (λ s. s v) → e ≡ written (word_view n ws) d w → Does {A = Unit {0}} roomy (Op.literal d v) tt (word_view n ws) e (Ok tt)
-literals n d v w ws e hd lo hi right wrote = does (Op.literal d v) n d w ws e (λ s. s v) wrote right (rw (le-leb d 15 hd, le-leb 1 v lo, le-leb v n hi) refl) refl
 
 pub meets : (n d a b : ℕ) (ws : List ℕ) (e : View (Unit {0})) → d ≤ 15 → a ≤ 15 → b ≤ 15 → e ≡ written (word_view n ws) d (bit_and (slice_index ws a) (slice_index ws b)) → Does {A = Unit {0}} roomy (Op.meet d a b) tt (word_view n ws) e (Ok tt)
 meets n d a b ws e hd ha hb wrote = does (Op.meet d a b) n d (bit_and (slice_index ws a) (slice_index ws b)) ws e (λ s. word_regs n ws a s && word_regs n ws b s) wrote (fun_ext right) (rw (le-leb d 15 hd, le-leb a 15 ha, le-leb b 15 hb) refl) refl
@@ -100,18 +95,16 @@ place_below x n h hn =
     let p : 2 ^ n ≤ 2 ^ 6 = pow-le-pow_right (lit< tt) hn in
     omega (arith, shr_below x n (8 - n) l)
 
-pub fixes : (n d a v w : ℕ) (b : Bool) (ws : List ℕ) (e : View (Unit {0})) → d ≤ 15 → a ≤ 15 → 1 ≤ v → v ≤ n → means n w ≡ (λ s. means n (slice_index ws a) (held s v b)) → e ≡ written (word_view n ws) d w → Does {A = Unit {0}} roomy (Op.fix d a v b) tt (word_view n ws) e (Ok tt)
-fixes n d a v w b ws e hd ha lo hi fixed wrote = does (Op.fix d a v b) n d w ws e (λ s. word_regs n ws a (held s v b)) wrote (fixed ∙ ap {B = Bits → Bool} (λ f s. f (held s v b)) (reg_at n ws a ha)) (rw (le-leb d 15 hd, le-leb a 15 ha, le-leb 1 v lo, le-leb v n hi) refl) refl
-
-pub foralls : (n d a v x y : ℕ) (ws : List ℕ) (e : View (Unit {0})) → d ≤ 15 → a ≤ 15 → 1 ≤ v → v ≤ n → means n x ≡ (λ s. means n (slice_index ws a) (held s v false)) → means n y ≡ (λ s. means n (slice_index ws a) (held s v true)) → e ≡ written (word_view n ws) d (bit_and x y) → Does {A = Unit {0}} roomy (Op.forall d a v) tt (word_view n ws) e (Ok tt)
-foralls n d a v x y ws e hd ha lo hi low high wrote = does (Op.forall d a v) n d (bit_and x y) ws e (λ s. word_regs n ws a (held s v false) && word_regs n ws a (held s v true)) wrote both (rw (le-leb d 15 hd, le-leb a 15 ha, le-leb 1 v lo, le-leb v n hi) refl) refl
+pub foralls : (n d a v m w x y : ℕ) (ws : List ℕ) (e : View (Unit {0})) → d ≤ 15 → a ≤ 15 → 1 ≤ v → v ≤ m → m ≡ n → w ≡ slice_index ws a → means m x ≡ (λ s. means m w (held s v false)) → means m y ≡ (λ s. means m w (held s v true)) → e ≡ written (word_view n ws) d (bit_and x y) → Does {A = Unit {0}} roomy (Op.forall d a v) tt (word_view n ws) e (Ok tt)
+foralls n d a v m w x y ws e hd ha lo hi same word low high wrote = let upper : v ≤ n = omega arith in does (Op.forall d a v) n d (bit_and x y) ws e (λ s. word_regs n ws a (held s v false) && word_regs n ws a (held s v true)) wrote both (rw (le-leb d 15 hd, le-leb a 15 ha, le-leb 1 v lo, le-leb v n upper) refl) refl
   where
     both : means n (bit_and x y) ≡ (λ s. word_regs n ws a (held s v false) && word_regs n ws a (held s v true))
     both =
-        (fun_ext λ s. bit_of_and x y (spelt n s))
-        ∙ ap {B = Bits → Bool} (λ f s. f s && means n y s) low
-        ∙ ap {B = Bits → Bool} (λ f s. means n (slice_index ws a) (held s v false) && f s) high
-        ∙ ap {B = Bits → Bool} (λ f s. f (held s v false) && f (held s v true)) (reg_at n ws a ha)
+        rw (← same)
+        ((fun_ext λ s. bit_of_and x y (spelt m s))
+        ∙ ap {B = Bits → Bool} (λ f s. f s && means m y s) low
+        ∙ ap {B = Bits → Bool} (λ f s. means m w (held s v false) && f s) high
+        ∙ rw word (ap {B = Bits → Bool} (λ f s. f (held s v false) && f (held s v true)) (reg_at m ws a ha)))
 
 -- a word without bits from 2 ^ n on is the word of the function that it means
 pub word_table : (n w : ℕ) → w < 2 ^ 2 ^ n → w ≡ table n (means n w)
@@ -135,31 +128,31 @@ tests n a ws ha small = record {
     zeroed h = word_table n (slice_index ws a) (small a) ∙ ap (λ (f : Bits → Bool). table n f) (reg_at n ws a ha ∙ fun_ext h) ∙ number_none (2 ^ n)
 
 -- the word whose bit i is bit n - v of i means the variable v
-pub means_variable : (n v m k : ℕ) → n ≤ 6 → 1 ≤ v → v ≤ n → n - v ≡ k → each 64 (λ i. alike (bit m i) (bit i k)) ≡ true → means n m ≡ (λ s. s v)
-means_variable n v m k hn lo hi e all = fun_ext λ s. columns m k all (spelt n s) (below_64 n s hn) ∙ ap (λ (j : ℕ). bit (spelt n s) j) (sym e) ∙ spelt_bit n v s lo hi
+pub means_variable : (x : Variable) (m k : ℕ) → x.n - x.v ≡ k → each 64 (λ i. alike (bit m i) (bit i k)) ≡ true → means x.n m ≡ (λ s. s x.v)
+means_variable x m k e all = fun_ext λ s. columns m k all (spelt x.n s) (below_64 x.n s x.few) ∙ ap (λ (j : ℕ). bit (spelt x.n s) j) (sym e) ∙ spelt_bit x.n x.v s x.low x.high
 
 -- a word with the variable v held at 1: where v is 0 the bit that lies t higher
-pub held_high : (n v w m t : ℕ) (b : Bool) → n ≤ 6 → 1 ≤ v → v ≤ n → means n m ≡ (λ s. s v) → t ≡ 2 ^ (n - v) → b ≡ true → means n (bit_xor (w / 2 ^ t) (bit_and (bit_xor w (w / 2 ^ t)) m)) ≡ (λ s. means n w (held s v b))
-held_high n v w m t b hn lo hi column et eb = fun_ext λ s.
-    mux w (w / 2 ^ t) m (spelt n s)
-    ∙ ap (λ (f : Bits → Bool). cond (f s) (means n w s) (means n (w / 2 ^ t) s)) column
-    ∙ go s (s v) b (spelt n (held s v b)) eb (spelt_held n v b s lo hi)
+pub held_high : (x : Variable) (w m t : ℕ) (b : Bool) → means x.n m ≡ (λ s. s x.v) → t ≡ 2 ^ (x.n - x.v) → b ≡ true → means x.n (bit_xor (w / 2 ^ t) (bit_and (bit_xor w (w / 2 ^ t)) m)) ≡ (λ s. means x.n w (held s x.v b))
+held_high x w m t b column et eb = fun_ext λ s.
+    mux w (w / 2 ^ t) m (spelt x.n s)
+    ∙ ap (λ (f : Bits → Bool). cond (f s) (means x.n w s) (means x.n (w / 2 ^ t) s)) column
+    ∙ go s (s x.v) b (spelt x.n (held s x.v b)) eb (spelt_held x.n x.v b s x.low x.high)
   where
-    go : (s : Bits) (p q : Bool) (x : ℕ) → q ≡ true → x + cond p (2 ^ (n - v)) 0 ≡ spelt n s + cond q (2 ^ (n - v)) 0 → cond p (means n w s) (means n (w / 2 ^ t) s) ≡ bit w x
-    go s true true x e h = let z : spelt n s ≡ x = omega arith in ap (λ (i : ℕ). bit w i) z
-    go s false true x e h = let z : spelt n s + t ≡ x = omega arith in shr_bit w t (spelt n s) ∙ ap (λ (i : ℕ). bit w i) z
-    go s true false x e h = let y : ◌≡◌ {A = ℕ} 0 1 = cc in absurd (omega arith)
-    go s false false x e h = let y : ◌≡◌ {A = ℕ} 0 1 = cc in absurd (omega arith)
+    go : (s : Bits) (p q : Bool) (y : ℕ) → q ≡ true → y + cond p (2 ^ (x.n - x.v)) 0 ≡ spelt x.n s + cond q (2 ^ (x.n - x.v)) 0 → cond p (means x.n w s) (means x.n (w / 2 ^ t) s) ≡ bit w y
+    go s true true y e h = let z : spelt x.n s ≡ y = omega arith in ap (λ (i : ℕ). bit w i) z
+    go s false true y e h = let z : spelt x.n s + t ≡ y = omega arith in shr_bit w t (spelt x.n s) ∙ ap (λ (i : ℕ). bit w i) z
+    go s true false y e h = let z : ◌≡◌ {A = ℕ} 0 1 = cc in absurd (omega arith)
+    go s false false y e h = let z : ◌≡◌ {A = ℕ} 0 1 = cc in absurd (omega arith)
 
 -- a word with the variable v held at 0: where v is 1 the bit that lies t lower
-pub held_low : (n v w m t : ℕ) (b : Bool) → n ≤ 6 → 1 ≤ v → v ≤ n → means n m ≡ (λ s. s v) → t ≡ 2 ^ (n - v) → b ≡ false → means n (bit_xor w (bit_and (bit_xor ((w * 2 ^ t) % 2 ^ 64) w) m)) ≡ (λ s. means n w (held s v b))
-held_low n v w m t b hn lo hi column et eb = fun_ext λ s.
-    mux ((w * 2 ^ t) % 2 ^ 64) w m (spelt n s)
-    ∙ ap (λ (f : Bits → Bool). cond (f s) (means n ((w * 2 ^ t) % 2 ^ 64) s) (means n w s)) column
-    ∙ go s (s v) b (spelt n (held s v b)) eb (spelt_held n v b s lo hi) (below_64 n s hn)
+pub held_low : (x : Variable) (w m t : ℕ) (b : Bool) → means x.n m ≡ (λ s. s x.v) → t ≡ 2 ^ (x.n - x.v) → b ≡ false → means x.n (bit_xor w (bit_and (bit_xor ((w * 2 ^ t) % 2 ^ 64) w) m)) ≡ (λ s. means x.n w (held s x.v b))
+held_low x w m t b column et eb = fun_ext λ s.
+    mux ((w * 2 ^ t) % 2 ^ 64) w m (spelt x.n s)
+    ∙ ap (λ (f : Bits → Bool). cond (f s) (means x.n ((w * 2 ^ t) % 2 ^ 64) s) (means x.n w s)) column
+    ∙ go s (s x.v) b (spelt x.n (held s x.v b)) eb (spelt_held x.n x.v b s x.low x.high) (below_64 x.n s x.few)
   where
-    go : (s : Bits) (p q : Bool) (x : ℕ) → q ≡ false → x + cond p (2 ^ (n - v)) 0 ≡ spelt n s + cond q (2 ^ (n - v)) 0 → spelt n s < 64 → cond p (means n ((w * 2 ^ t) % 2 ^ 64) s) (means n w s) ≡ bit w x
-    go s true false x e h l = let z : spelt n s ≡ x + t = omega arith in ap (λ (i : ℕ). bit ((w * 2 ^ t) % 2 ^ 64) i) z ∙ shl_bit w t x 64 (omega arith)
-    go s false false x e h l = let z : spelt n s ≡ x = omega arith in ap (λ (i : ℕ). bit w i) z
-    go s true true x e h l = let y : ◌≡◌ {A = ℕ} 0 1 = cc in absurd (omega arith)
-    go s false true x e h l = let y : ◌≡◌ {A = ℕ} 0 1 = cc in absurd (omega arith)
+    go : (s : Bits) (p q : Bool) (y : ℕ) → q ≡ false → y + cond p (2 ^ (x.n - x.v)) 0 ≡ spelt x.n s + cond q (2 ^ (x.n - x.v)) 0 → spelt x.n s < 64 → cond p (means x.n ((w * 2 ^ t) % 2 ^ 64) s) (means x.n w s) ≡ bit w y
+    go s true false y e h l = let z : spelt x.n s ≡ y + t = omega arith in ap (λ (i : ℕ). bit ((w * 2 ^ t) % 2 ^ 64) i) z ∙ shl_bit w t y 64 (omega arith)
+    go s false false y e h l = let z : spelt x.n s ≡ y = omega arith in ap (λ (i : ℕ). bit w i) z
+    go s true true y e h l = let z : ◌≡◌ {A = ℕ} 0 1 = cc in absurd (omega arith)
+    go s false true y e h l = let z : ◌≡◌ {A = ℕ} 0 1 = cc in absurd (omega arith)

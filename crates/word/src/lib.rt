@@ -2,7 +2,7 @@
 
 #![tactic(auto)]
 
-mod table;
 #[cfg(test)]
 mod tests;
+mod variable;
 pub mod word;

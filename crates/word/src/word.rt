@@ -4,9 +4,6 @@ pub mod calls;
 pub mod deciding;
 mod registers;
 
-// The last register.
-const LAST: u8 = 15;
-
 // An engine of n variables, 1 to 6. Bit i of a register's word is its value where variables 1 to n, variable 1
 // highest, spell i.
 #[derive(Drop)]

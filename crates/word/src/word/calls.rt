@@ -2,11 +2,11 @@ ghost use Rattle.word.specs.Words.{roomy, word_view};
 ghost use Rattle.word.specs.Meaning.{same_regs};
 ghost use Rattle.std.proofs.Common.{rules};
 
-use super::{LAST, WordEngine};
-use crate::table::{column, full};
+use super::WordEngine;
 use engine::assignment::Assignment;
 use engine::calls::Engine;
 use engine::fault::EngineFault;
+use engine::register::Register;
 
 // No call lacks room.
 impl Engine for WordEngine {
@@ -27,54 +27,45 @@ impl Engine for WordEngine {
     }
 
     fn clear(&mut self, d: u8) -> Result<(), EngineFault> {
-        if d > LAST {
-            return Err(EngineFault::Register);
-        }
+        let d = Register::try_from(d)?;
         self.put(d, 0);
         Ok(())
     }
 
     fn copy(&mut self, d: u8, a: u8) -> Result<(), EngineFault> {
-        if d > LAST || a > LAST {
-            return Err(EngineFault::Register);
-        }
-        self.put(d, self.words[a as usize]);
+        let d = Register::try_from(d)?;
+        let a = Register::try_from(a)?;
+        self.put(d, self.word_in(a));
         Ok(())
     }
 
     fn negate(&mut self, d: u8, a: u8) -> Result<(), EngineFault> {
-        if d > LAST || a > LAST {
-            return Err(EngineFault::Register);
-        }
-        self.put(d, full(self.n) ^ self.words[a as usize]);
+        let d = Register::try_from(d)?;
+        let a = Register::try_from(a)?;
+        self.put(d, self.full() ^ self.word_in(a));
         Ok(())
     }
 
     fn literal(&mut self, d: u8, v: u8) -> Result<(), EngineFault> {
-        if d > LAST {
-            return Err(EngineFault::Register);
-        }
-        if v < 1 || v > self.n {
-            return Err(EngineFault::Variable);
-        }
-        self.put(d, column(self.n, v));
+        let d = Register::try_from(d)?;
+        let variable = self.variable(v)?;
+        self.put(d, variable.column());
         Ok(())
     }
 
     fn meet(&mut self, d: u8, a: u8, b: u8) -> Result<(), EngineFault> {
-        if d > LAST || a > LAST || b > LAST {
-            return Err(EngineFault::Register);
-        }
-        self.put(d, self.words[a as usize] & self.words[b as usize]);
+        let d = Register::try_from(d)?;
+        let a = Register::try_from(a)?;
+        let b = Register::try_from(b)?;
+        self.put(d, self.word_in(a) & self.word_in(b));
         Ok(())
     }
 
+    #[tactic(auto, using(crate::specs::Meaning::evaluates, crate::specs::Meaning::place_below))]
     fn evaluate(&mut self, a: u8, bits: &Assignment) -> Result<bool, EngineFault> {
-        if a > LAST {
-            return Err(EngineFault::Register);
-        }
+        let a = Register::try_from(a)?;
         // variables 1 to n are the top bits of the first byte
         let at = bits[0] >> (8 - self.n);
-        Ok((self.words[a as usize] >> at) % 2 == 1)
+        Ok((self.word_in(a) >> at) % 2 == 1)
     }
 }

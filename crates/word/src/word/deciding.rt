@@ -1,38 +1,31 @@
-use super::{LAST, WordEngine};
-use crate::table::fixed;
+use super::WordEngine;
 use engine::calls::DecidingEngine;
 use engine::fault::EngineFault;
+use engine::register::Register;
 
 impl DecidingEngine for WordEngine {
     fn fix(&mut self, d: u8, a: u8, v: u8, bit: bool) -> Result<(), EngineFault> {
-        if d > LAST || a > LAST {
-            return Err(EngineFault::Register);
-        }
-        if v < 1 || v > self.n {
-            return Err(EngineFault::Variable);
-        }
-        self.put(d, fixed(self.n, self.words[a as usize], v, bit));
+        let d = Register::try_from(d)?;
+        let a = Register::try_from(a)?;
+        let variable = self.variable(v)?;
+        self.put(d, variable.fixed(self.word_in(a), bit));
         Ok(())
     }
 
     fn forall(&mut self, d: u8, a: u8, v: u8) -> Result<(), EngineFault> {
-        if d > LAST || a > LAST {
-            return Err(EngineFault::Register);
-        }
-        if v < 1 || v > self.n {
-            return Err(EngineFault::Variable);
-        }
-        let w = self.words[a as usize];
-        let low = fixed(self.n, w, v, false);
-        let high = fixed(self.n, w, v, true);
+        let d = Register::try_from(d)?;
+        let a = Register::try_from(a)?;
+        let variable = self.variable(v)?;
+        let w = self.word_in(a);
+        let low = variable.fixed(w, false);
+        let high = variable.fixed(w, true);
         self.put(d, low & high);
         Ok(())
     }
 
+    #[tactic(auto, using(crate::specs::Meaning::tests))]
     fn empty(&mut self, a: u8) -> Result<bool, EngineFault> {
-        if a > LAST {
-            return Err(EngineFault::Register);
-        }
-        Ok(self.words[a as usize] == 0)
+        let a = Register::try_from(a)?;
+        Ok(self.word_in(a) == 0)
     }
 }

@@ -1,9 +1,11 @@
-ghost use Rattle.std.specs.Prelude.{◌≡◌, ◌≤◌};
-ghost use Rattle.word.specs.Words.{word_view, word_at, written, near, blank};
+ghost use Rattle.std.specs.Prelude.{◌≡◌, slice_index};
+ghost use Rattle.word.specs.Words.{word_view, word_at, written, near, blank, whole};
+ghost use Rattle.word.specs.Variable.{NamesVariable};
 
-use super::{LAST, WordEngine};
-use crate::table::full;
+use super::WordEngine;
+use crate::variable::Variable;
 use engine::fault::EngineFault;
+use engine::register::Register;
 
 impl WordEngine {
     // A new engine of n variables, false in all sixteen registers; an n outside 1 to 6 is taken as the nearest end.
@@ -17,20 +19,48 @@ impl WordEngine {
     }
 
     // The word of register a.
+    #[tactic(auto, using(crate::specs::Meaning::tells))]
     pub fn word(&self, a: u8) -> Result<u64, EngineFault>
         ensures { result ≡ word_at (word_view self.now.n self.now.words) a }
     {
-        if a > LAST {
-            return Err(EngineFault::Register);
-        }
-        Ok(self.words[a as usize])
+        Ok(self.word_in(Register::try_from(a)?))
+    }
+
+    // The word in a register.
+    pub(super) fn word_in(&self, a: Register) -> u64
+        ensures { result ≡ slice_index self.now.words a.number }
+    {
+        self.words[a.index()]
     }
 
     // Register d becomes w, of which only the bits below 2^n are kept.
-    pub(super) fn put(&mut self, d: u8, w: u64)
-        requires { d ≤ 15 }
-        ensures { word_view self.new.n self.new.words ≡ written (word_view self.old.n self.old.words) d w }
+    pub(super) fn put(&mut self, d: Register, w: u64)
+        ensures { word_view self.new.n self.new.words ≡ written (word_view self.old.n self.old.words) d.number w }
     {
-        self.words[d as usize] = w & full(self.n);
+        self.words[d.index()] = w & self.full();
+    }
+
+    // The word that is true under every assignment.
+    pub(super) fn full(&self) -> u64
+        ensures { result ≡ whole self.now.n }
+    {
+        match self.n {
+            1 => 0x3,
+            2 => 0xf,
+            3 => 0xff,
+            4 => 0xffff,
+            5 => 0xffff_ffff,
+            _ => 0xffff_ffff_ffff_ffff,
+        }
+    }
+
+    // Variable v, unless it is not 1 to n.
+    pub(super) fn variable(&self, v: u8) -> Result<Variable, EngineFault>
+        ensures { NamesVariable self.now.n v result }
+    {
+        if v < 1 || v > self.n {
+            return Err(EngineFault::Variable);
+        }
+        Ok(Variable { n: self.n, v })
     }
 }

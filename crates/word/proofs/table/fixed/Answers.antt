@@ -1,9 +1,0 @@
-use Rattle.std.proofs.Common.{arith}
-use Rattle.word.specs.Meaning.{held_high, held_low}
-use Rattle.word.proofs.table.fixed.Goals as goal
-
-pub returns-then-high : goal.returns-then-high
-returns-then-high c = held_high c.args.n c.args.v c.args.w c.column-m.result c.step-t.result c.args.high (omega arith) (omega arith) (omega arith) c.column-m.ensures c.step-t.ensures.exact c.if-high.true
-
-pub returns-else-high : goal.returns-else-high
-returns-else-high c = held_low c.args.n c.args.v c.args.w c.column-m.result c.step-t.result c.args.high (omega arith) (omega arith) (omega arith) c.column-m.ensures c.step-t.ensures.exact c.if-high.false
