@@ -1,10 +1,10 @@
 -- What each call of a word engine does to the meaning of its registers.
-use Rattle.std.specs.Prelude.{◌≡◌, ℕ, zero, suc, ◌+◌, ◌-◌, ◌*◌, ◌/◌, ◌%◌, ◌^◌, ◌<◌, ◌≤◌, Bool, true, false, cond, not, ◌&&◌, ◌≢◌, ◌⊎◌, List, length, replicate, Ok, ◌==◌, nat_le, slice_index, slice_index_or, slice_set, refl}
-use Rattle.std.proofs.Common.{sym, ap, ◌∙◌, inl, inr, arith, mod-eq_of_lt, lit<, get_or-set_same, get_or-set_other, eqb-true, le-leb}
+use Rattle.std.specs.Prelude.{◌≡◌, ℕ, zero, suc, ◌+◌, ◌-◌, ◌*◌, ◌/◌, ◌%◌, ◌^◌, ◌<◌, ◌≤◌, Bool, true, false, cond, not, ◌&&◌, ◌≢◌, List, length, replicate, Ok, ◌==◌, nat_le, slice_index, slice_index_or, slice_set, refl}
+use Rattle.std.proofs.Common.{sym, ap, ◌∙◌, arith, mod-eq_of_lt, lit<, get_or-set_same, get_or-set_other, eqb-true, le-leb}
 use Rattle.std.proofs.Math.Path.{fun_ext}
 use Rattle.std.proofs.Math.Nat.{pow-le-pow_right}
-use Rattle.std.specs.Int.Bits.{bit_and, bit_xor, mask_lt}
-use Rattle.std.proofs.lemmas.Bool.{eq-eqb, cases_eq, eqb-false}
+use Rattle.std.specs.Int.Bits.{bit_and, bit_xor}
+use Rattle.std.proofs.lemmas.Bool.{eq-eqb, eqb-false}
 use Rattle.std.proofs.lemmas.Nat.{shr_below, and_mask}
 use Rattle.engine.specs.Ops.{Bits, Agree, Op, Regs, put, held, within, after, bit_at, spelt}
 use Rattle.engine.specs.Does.{Does, View, Tests, answer}
@@ -38,14 +38,6 @@ blanks n m e = ap (λ (k : ℕ). word_view k (replicate 16 0)) e ∙ ap (λ (f :
 -- the bits below 2 ^ n of a word mean what the word means
 kept_means : (n w : ℕ) (s : Bits) → means n (bit_and w (whole n)) s ≡ means n w s
 kept_means n w s = ap (λ (x : ℕ). means n x s) (and_mask w (2 ^ n)) ∙ low_bit w (2 ^ n) (spelt n s) (spelt_below n s)
-
--- bits from 2 ^ n on stay zero
-pub kept_small : (n : ℕ) (ws : List ℕ) (d w m : ℕ) → length ws ≡ 16 → d ≤ 15 → m ≡ whole n → ((r : ℕ) → slice_index ws r < 2 ^ 2 ^ n) → (r : ℕ) → slice_index (slice_set ws d (bit_and w m)) r < 2 ^ 2 ^ n
-kept_small n ws d w m k h e small r = go (cases_eq r d)
-  where
-    go : (r ≡ d) ⊎ (r ≢ d) → slice_index (slice_set ws d (bit_and w m)) r < 2 ^ 2 ^ n
-    go (inl q) = let lt : d < length ws = omega arith in rw (q, get_or-set_same, e) (mask_lt w (2 ^ n))
-    go (inr q) = let ne : r ≢ d = q in rw get_or-set_other (small r)
 
 -- a word that is written, without its bits from 2 ^ n on
 pub writes : (n d w m : ℕ) (ws : List ℕ) → d ≤ 15 → length ws ≡ 16 → m ≡ whole n → word_view n (slice_set ws d (bit_and w m)) ≡ written (word_view n ws) d w

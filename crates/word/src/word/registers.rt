@@ -58,7 +58,7 @@ impl WordEngine {
     pub(super) fn variable(&self, v: u8) -> Result<Variable, EngineFault>
         ensures { NamesVariable self.now.n v result }
     {
-        if v < 1 || v > self.n {
+        if !(1..=self.n).contains(&v) {
             return Err(EngineFault::Variable);
         }
         Ok(Variable { n: self.n, v })
