@@ -1,12 +1,12 @@
 -- The result of a reduction stands among the diagrams that it forms.
-use Rattle.std.proofs.Common.{◌≡◌, ℕ, zero, suc, Bool, true, false, cond, List, ◌++◌, ℤ, pos, neg_ℤ, refl, ◌∙◌}
+use Rattle.std.proofs.Common.{Some, None, Option, ◌≡◌, ℕ, zero, suc, Bool, true, false, cond, List, ◌++◌, ℤ, pos, neg_ℤ, refl, ◌∙◌}
 use lib.Signed.{lt_z}
 use Rattle.std.proofs.lemmas.Bool.{or_right, both_ways}
 use Rattle.diagram.specs.Diagrams.{Diagram, top, bottom, node, has, Made}
 use Rattle.diagram.specs.Rules.{Part, τ, -τ, plain, listed, signed, after, rule, apply, rewrite, negate, part, reduce}
 use Rattle.diagram.specs.RuleLaws.{Negative, told}
 use Rattle.diagram.specs.declared.rule.Rule.{Rule}
-use Rattle.diagram.specs.declared.rule.Rule.TheVariants.{One, Two, Three, Four, Five, Six, Seven, Eight, Nine, Ten, Stop}
+use Rattle.diagram.specs.declared.rule.Rule.TheVariants.{One, Two, Three, Four, Five, Six, Seven, Eight, Nine, Ten}
 use Rattle.diagram.proofs.Same.{has_here, has_append}
 use Rattle.diagram.proofs.Rewrites.{Says, says, neg_negative}
 
@@ -48,18 +48,18 @@ rewrite_told (suc k) x a b c h = go (rule x a.it b.it c.it) (says x a.it b.it c.
     turn : (d e : Part) → Negative x → IH → (ds : List Diagram) → Tells (after ds (rewrite k (neg_ℤ x) d e τ))
     turn d e n ih ds = told_more ds _ (rewrite k (neg_ℤ x) d e τ).it (ih (neg_ℤ x) d e τ (λ m. absurd (both_ways (lt_z (neg_ℤ x) (pos 0)) (neg_negative x n) m)))
 
-    go : (r : Rule) → Says x a.it b.it c.it r → IH → Tells (apply r (rewrite k) x a b c)
-    go One s ih = signed_told x -τ (λ n. refl)
-    go Two s ih = signed_told x -τ (λ n. refl)
-    go Three s ih = signed_told x c (λ n. (h n).three)
-    go Four s ih = signed_told x a (λ n. (h n).one)
-    go Five s ih = ih x τ -τ a (λ n. record { one = refl; two = refl; three = (h n).one })
-    go Six s ih = ih x -τ τ b (λ n. record { one = refl; two = refl; three = (h n).two })
-    go Seven s ih = ih x a τ c (λ n. record { one = (h n).one; two = refl; three = (h n).three })
-    go Eight s ih = ih x τ b c (λ n. record { one = refl; two = (h n).two; three = (h n).three })
-    go Nine s ih = turn -τ (plain b.negated.it) s.0 ih b.negated.formed
-    go Ten s ih = turn (plain a.negated.it) -τ s.0 ih a.negated.formed
-    go Stop s ih = told_listed (node x a.it b.it c.it)
+    go : (r : Option Rule) → Says x a.it b.it c.it r → IH → Tells (apply r (rewrite k) x a b c)
+    go (Some One) s ih = signed_told x -τ (λ n. refl)
+    go (Some Two) s ih = signed_told x -τ (λ n. refl)
+    go (Some Three) s ih = signed_told x c (λ n. (h n).three)
+    go (Some Four) s ih = signed_told x a (λ n. (h n).one)
+    go (Some Five) s ih = ih x τ -τ a (λ n. record { one = refl; two = refl; three = (h n).one })
+    go (Some Six) s ih = ih x -τ τ b (λ n. record { one = refl; two = refl; three = (h n).two })
+    go (Some Seven) s ih = ih x a τ c (λ n. record { one = (h n).one; two = refl; three = (h n).three })
+    go (Some Eight) s ih = ih x τ b c (λ n. record { one = refl; two = (h n).two; three = (h n).three })
+    go (Some Nine) s ih = turn -τ (plain b.negated.it) s.0 ih b.negated.formed
+    go (Some Ten) s ih = turn (plain a.negated.it) -τ s.0 ih a.negated.formed
+    go None s ih = told_listed (node x a.it b.it c.it)
 
 pub negate_told : (d : Diagram) → told (negate d).it (negate d).formed ≡ true
 unfolding negate

@@ -1,11 +1,11 @@
-use Rattle.std.proofs.Common.{◌≡◌, ℕ, zero, suc, ◌+◌, ◌-◌, ◌<◌, ◌≤◌, min, Bool, true, false, cond, ltb, ℤ, pos, neg_ℤ, nat_abs, refl, not-suc-le-zero, arith}
+use Rattle.std.proofs.Common.{Some, None, Option, ◌≡◌, ℕ, zero, suc, ◌+◌, ◌-◌, ◌<◌, ◌≤◌, min, Bool, true, false, cond, ltb, ℤ, pos, neg_ℤ, nat_abs, refl, not-suc-le-zero, arith}
 use lib.Signed.{lt_z}
 use Rattle.std.proofs.lemmas.Bool.{ltb-true, ltb-false}
 use Rattle.diagram.specs.Diagrams.{Diagram, top, bottom, node, level, ordered, Made}
 use Rattle.diagram.specs.Rules.{Part, τ, -τ, plain, listed, signed, rule, apply, rewrite, negate, part, reduce}
 use Rattle.diagram.specs.Meet.{meet_within, nodes_step, under, under_negative, under_positive, nand, without, minus, either, level_with, both_negative, both_positive, opposite}
 use Rattle.diagram.specs.declared.rule.Rule.{Rule}
-use Rattle.diagram.specs.declared.rule.Rule.TheVariants.{One, Two, Three, Four, Five, Six, Seven, Eight, Nine, Ten, Stop}
+use Rattle.diagram.specs.declared.rule.Rule.TheVariants.{One, Two, Three, Four, Five, Six, Seven, Eight, Nine, Ten}
 use Rattle.diagram.proofs.Rewrites.{Rising, rising, order, nat_abs_neg, reduce_level, negate_level}
 
 -- ordered, with labels past x
@@ -52,19 +52,19 @@ rewrite_fine n (suc k) x a b c z l ha hb hc = go (rule x a.it b.it c.it) (rewrit
         → Both n x d → Both n x e → ordered n (rewrite k (neg_ℤ x) d e τ).it ≡ true
     turn d e ih hd he = ih (neg_ℤ x) d e τ (rw nat_abs_neg z) (rw nat_abs_neg l) (both_neg n x d hd) (both_neg n x e he) (both_neg n x τ t)
 
-    go : (r : Rule) → ((x : ℤ) (a b c : Part) → 0 < nat_abs x → nat_abs x ≤ n → Both n x a → Both n x b → Both n x c → ordered n (rewrite k x a b c).it ≡ true)
+    go : (r : Option Rule) → ((x : ℤ) (a b c : Part) → 0 < nat_abs x → nat_abs x ≤ n → Both n x a → Both n x b → Both n x c → ordered n (rewrite k x a b c).it ≡ true)
         → ordered n (apply r (rewrite k) x a b c).it ≡ true
-    go One ih = signed_fine n x -τ f
-    go Two ih = signed_fine n x -τ f
-    go Three ih = signed_fine n x c hc
-    go Four ih = signed_fine n x a ha
-    go Five ih = ih x τ -τ a z l t f ha
-    go Six ih = ih x -τ τ b z l f t hb
-    go Seven ih = ih x a τ c z l ha t hc
-    go Eight ih = ih x τ b c z l t hb hc
-    go Nine ih = turn -τ (plain b.negated.it) ih f (record { plainly = hb.turned; turned = hb.turned })
-    go Ten ih = turn (plain a.negated.it) -τ ih (record { plainly = ha.turned; turned = ha.turned }) f
-    go Stop ih = stored_fine n x _ _ _ z l ha.plainly hb.plainly hc.plainly
+    go (Some One) ih = signed_fine n x -τ f
+    go (Some Two) ih = signed_fine n x -τ f
+    go (Some Three) ih = signed_fine n x c hc
+    go (Some Four) ih = signed_fine n x a ha
+    go (Some Five) ih = ih x τ -τ a z l t f ha
+    go (Some Six) ih = ih x -τ τ b z l f t hb
+    go (Some Seven) ih = ih x a τ c z l ha t hc
+    go (Some Eight) ih = ih x τ b c z l t hb hc
+    go (Some Nine) ih = turn -τ (plain b.negated.it) ih f (record { plainly = hb.turned; turned = hb.turned })
+    go (Some Ten) ih = turn (plain a.negated.it) -τ ih (record { plainly = ha.turned; turned = ha.turned }) f
+    go None ih = stored_fine n x _ _ _ z l ha.plainly hb.plainly hc.plainly
 
 -- a diagram over its own label, one less
 pub negate_fine : (n : ℕ) (d : Diagram) → ordered n d ≡ true → ordered n (negate d).it ≡ true

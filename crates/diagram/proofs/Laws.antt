@@ -154,22 +154,6 @@ deep_meet n y d e p q =
     let m : Met n d e (meet_within (n + 1) d e).it = meet_good n (n + 1) d e p.fine q.fine (omega (arith, level_first n d p.fine, level_first n e q.fine)) in
     record { fine = m.fine; past = omega (arith, m.past, p.past, q.past) }
 
-pub deep_nand : (n y : ℕ) (d e : Diagram) → Deep n y d → Deep n y e → Deep n y (nand (meet n) d e).it
-unfolding nand
-deep_nand n y d e p q = deep_negate n y _ (deep_meet n y d e p q)
-
-pub deep_without : (n y : ℕ) (d e : Diagram) → Deep n y d → Deep n y e → Deep n y (without (meet n) d e).it
-unfolding without
-deep_without n y d e p q = deep_nand n y _ e (deep_negate n y d p) q
-
-pub deep_minus : (n y : ℕ) (a d e : Diagram) → Deep n y a → Deep n y d → Deep n y e → Deep n y (minus (meet n) a d e).it
-unfolding minus
-deep_minus n y a d e o p q = deep_meet n y a _ o (deep_nand n y d e p q)
-
-pub deep_either : (n y : ℕ) (a c d e : Diagram) → Deep n y a → Deep n y c → Deep n y d → Deep n y e → Deep n y (either (meet n) a c d e).it
-unfolding either
-deep_either n y a c d e o o' p q = deep_nand n y _ _ (deep_nand n y a c o o') (deep_nand n y d e p q)
-
 -- what a variable held gives
 pub deep_turn : (n y : ℕ) (negative : Bool) (d : Diagram) → Deep n y d → Deep n y (turn negative d).it
 deep_turn n y true d o = deep_negate n y d o
@@ -208,6 +192,3 @@ fix_fine n v bit (node x a b c) o =
     go false t fa fb fc da db dc =
         let g = good_reduce n x fa.it fb.it fc.it r.first r.last (over a _ r.low da) (over b _ r.high db) (over c _ r.rest dc) in
         unfold fix_parts in record { fine = g.fine; past = g.past }
-
-pub deep_fix : (n v y : ℕ) (bit : Bool) (d : Diagram) → Deep n y d → Deep n y (fix n v bit d).it
-deep_fix n v y bit d p = let f = fix_fine n v bit d p.fine in record { fine = f.fine; past = omega (arith, p.past, f.past) }

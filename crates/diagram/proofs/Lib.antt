@@ -1,5 +1,4 @@
 pub mod Same
-pub mod Counts
 pub mod Rewrites
 pub mod Goods
 pub mod Laws

@@ -1,44 +1,44 @@
-use Rattle.std.proofs.Common.{◌≡◌, ℕ, zero, suc, ◌+◌, ◌<◌, ◌≤◌, Bool, true, false, cond, not, ◌&&◌, ltb, leb, ℤ, pos, negsuc, neg_ℤ, nat_abs, refl, ap, ◌∙◌, subst, zero-le, not-suc-le-zero, arith}
+use Rattle.std.proofs.Common.{Some, None, Option, ◌≡◌, ℕ, zero, suc, ◌+◌, ◌<◌, ◌≤◌, Bool, true, false, cond, not, ◌&&◌, ltb, leb, ℤ, pos, negsuc, neg_ℤ, nat_abs, refl, ap, ◌∙◌, subst, zero-le, not-suc-le-zero, arith}
 use lib.Signed.{lt_z}
 use Rattle.std.proofs.lemmas.Bool.{and_parts, and_from, not-true, cond_both, both_ways, ltb-true, leb-true, lt-ltb, le-ltb, le-leb}
 use Rattle.diagram.specs.Diagrams.{Diagram, top, bottom, node, level, ordered, same}
 use Rattle.diagram.specs.Rules.{Part, τ, -τ, plain, listed, signed, after, pick, rule, apply, rewrite, negate, part, reduce}
 use Rattle.diagram.specs.declared.rule.Rule.{Rule}
-use Rattle.diagram.specs.declared.rule.Rule.TheVariants.{One, Two, Three, Four, Five, Six, Seven, Eight, Nine, Ten, Stop}
+use Rattle.diagram.specs.declared.rule.Rule.TheVariants.{One, Two, Three, Four, Five, Six, Seven, Eight, Nine, Ten}
 use Rattle.diagram.proofs.Same.{same_true, same_refl}
 
 -- what a rule's being the first to change a quadruple tells of it
-abbrev pub Told : (aT aB bT bB cT cB ab bc ac negative : Bool) → Rule → Type 0
-Told aT aB bT bB cT cB ab bc ac negative One = (aB ≡ true) × (bB ≡ true)
-Told aT aB bT bB cT cB ab bc ac negative Two = cB ≡ true
-Told aT aB bT bB cT cB ab bc ac negative Three = (aT ≡ true) × (bT ≡ true)
-Told aT aB bT bB cT cB ab bc ac negative Four = (ab ≡ true) × (cT ≡ true)
-Told aT aB bT bB cT cB ab bc ac negative Five = (bB ≡ true) × ((cT ≡ true) × (aT ≡ false))
-Told aT aB bT bB cT cB ab bc ac negative Six = (aB ≡ true) × ((cT ≡ true) × (bT ≡ false))
-Told aT aB bT bB cT cB ab bc ac negative Seven = (bc ≡ true) × (bT ≡ false)
-Told aT aB bT bB cT cB ab bc ac negative Eight = (ac ≡ true) × (aT ≡ false)
-Told aT aB bT bB cT cB ab bc ac negative Nine = (negative ≡ true) × ((aT ≡ true) × (cT ≡ true))
-Told aT aB bT bB cT cB ab bc ac negative Ten = (negative ≡ true) × ((bT ≡ true) × (cT ≡ true))
-Told aT aB bT bB cT cB ab bc ac negative Stop = Unit {0}
+abbrev pub Told : (aT aB bT bB cT cB ab bc ac negative : Bool) → Option Rule → Type 0
+Told aT aB bT bB cT cB ab bc ac negative (Some One) = (aB ≡ true) × (bB ≡ true)
+Told aT aB bT bB cT cB ab bc ac negative (Some Two) = cB ≡ true
+Told aT aB bT bB cT cB ab bc ac negative (Some Three) = (aT ≡ true) × (bT ≡ true)
+Told aT aB bT bB cT cB ab bc ac negative (Some Four) = (ab ≡ true) × (cT ≡ true)
+Told aT aB bT bB cT cB ab bc ac negative (Some Five) = (bB ≡ true) × ((cT ≡ true) × (aT ≡ false))
+Told aT aB bT bB cT cB ab bc ac negative (Some Six) = (aB ≡ true) × ((cT ≡ true) × (bT ≡ false))
+Told aT aB bT bB cT cB ab bc ac negative (Some Seven) = (bc ≡ true) × (bT ≡ false)
+Told aT aB bT bB cT cB ab bc ac negative (Some Eight) = (ac ≡ true) × (aT ≡ false)
+Told aT aB bT bB cT cB ab bc ac negative (Some Nine) = (negative ≡ true) × ((aT ≡ true) × (cT ≡ true))
+Told aT aB bT bB cT cB ab bc ac negative (Some Ten) = (negative ≡ true) × ((bT ≡ true) × (cT ≡ true))
+Told aT aB bT bB cT cB ab bc ac negative None = Unit {0}
 
 pub told : (aT aB bT bB cT cB ab bc ac negative : Bool) → Told aT aB bT bB cT cB ab bc ac negative (pick aT aB bT bB cT cB ab bc ac negative)
 told aT aB bT bB cT cB ab bc ac negative =
-    cond_both (aB && bB) One _ P (λ e. and_parts aB bB e) λ _.
-    cond_both cB Two _ P (λ e. e) λ _.
-    cond_both (aT && bT) Three _ P (λ e. and_parts aT bT e) λ _.
-    cond_both (ab && cT) Four _ P (λ e. and_parts ab cT e) λ _.
-    cond_both (bB && (cT && not aT)) Five _ P (λ e. let p = and_parts bB _ e in let q = and_parts cT _ p.1 in (p.0, (q.0, not-true aT q.1))) λ _.
-    cond_both (aB && (cT && not bT)) Six _ P (λ e. let p = and_parts aB _ e in let q = and_parts cT _ p.1 in (p.0, (q.0, not-true bT q.1))) λ _.
-    cond_both (bc && not bT) Seven _ P (λ e. let p = and_parts bc _ e in (p.0, not-true bT p.1)) λ _.
-    cond_both (ac && not aT) Eight _ P (λ e. let p = and_parts ac _ e in (p.0, not-true aT p.1)) λ _.
-    cond_both (negative && (aT && cT)) Nine _ P (λ e. let p = and_parts negative _ e in (p.0, and_parts aT cT p.1)) λ _.
-    cond_both (negative && (bT && cT)) Ten Stop P (λ e. let p = and_parts negative _ e in (p.0, and_parts bT cT p.1)) λ _.
+    cond_both (aB && bB) (Some One) _ P (λ e. and_parts aB bB e) λ _.
+    cond_both cB (Some Two) _ P (λ e. e) λ _.
+    cond_both (aT && bT) (Some Three) _ P (λ e. and_parts aT bT e) λ _.
+    cond_both (ab && cT) (Some Four) _ P (λ e. and_parts ab cT e) λ _.
+    cond_both (bB && (cT && not aT)) (Some Five) _ P (λ e. let p = and_parts bB _ e in let q = and_parts cT _ p.1 in (p.0, (q.0, not-true aT q.1))) λ _.
+    cond_both (aB && (cT && not bT)) (Some Six) _ P (λ e. let p = and_parts aB _ e in let q = and_parts cT _ p.1 in (p.0, (q.0, not-true bT q.1))) λ _.
+    cond_both (bc && not bT) (Some Seven) _ P (λ e. let p = and_parts bc _ e in (p.0, not-true bT p.1)) λ _.
+    cond_both (ac && not aT) (Some Eight) _ P (λ e. let p = and_parts ac _ e in (p.0, not-true aT p.1)) λ _.
+    cond_both (negative && (aT && cT)) (Some Nine) _ P (λ e. let p = and_parts negative _ e in (p.0, and_parts aT cT p.1)) λ _.
+    cond_both (negative && (bT && cT)) (Some Ten) None P (λ e. let p = and_parts negative _ e in (p.0, and_parts bT cT p.1)) λ _.
     tt
   where
-    P : Rule → Type 0
+    P : Option Rule → Type 0
     P = Told aT aB bT bB cT cB ab bc ac negative
 
-abbrev pub Says : ℤ → Diagram → Diagram → Diagram → Rule → Type 0
+abbrev pub Says : ℤ → Diagram → Diagram → Diagram → Option Rule → Type 0
 Says x a b c r =
     Told (same a top) (same a bottom) (same b top) (same b bottom) (same c top) (same c bottom) (same a b) (same b c) (same a c) (lt_z x (pos 0)) r
 
@@ -68,22 +68,22 @@ neg_negative (pos zero) e = refl
 neg_negative (pos (suc n)) e = absurd (both_ways _ (le-ltb (suc n) 0 zero-le) e)
 neg_negative (negsuc n) e = le-ltb (suc n) 0 zero-le
 
-pub falls_5 : (x : ℤ) (a b c : Diagram) → Says x a b c Five → rank x top bottom < rank x a b
+pub falls_5 : (x : ℤ) (a b c : Diagram) → Says x a b c (Some Five) → rank x top bottom < rank x a b
 falls_5 x a b c s = rw (top_top, bottom_top, s.1.1, not_top b s.0) (omega arith)
 
-pub falls_6 : (x : ℤ) (a b c : Diagram) → Says x a b c Six → rank x bottom top < rank x a b
+pub falls_6 : (x : ℤ) (a b c : Diagram) → Says x a b c (Some Six) → rank x bottom top < rank x a b
 falls_6 x a b c s = rw (top_top, bottom_top, s.1.1, not_top a s.0) (omega arith)
 
-pub falls_7 : (x : ℤ) (a b c : Diagram) → Says x a b c Seven → rank x a top < rank x a b
+pub falls_7 : (x : ℤ) (a b c : Diagram) → Says x a b c (Some Seven) → rank x a top < rank x a b
 falls_7 x a b c s = rw (top_top, s.1) (omega arith)
 
-pub falls_8 : (x : ℤ) (a b c : Diagram) → Says x a b c Eight → rank x top b < rank x a b
+pub falls_8 : (x : ℤ) (a b c : Diagram) → Says x a b c (Some Eight) → rank x top b < rank x a b
 falls_8 x a b c s = rw (top_top, s.1) (omega arith)
 
-pub falls_9 : (x : ℤ) (a b c d e : Diagram) → Says x a b c Nine → rank (neg_ℤ x) d e < rank x a b
+pub falls_9 : (x : ℤ) (a b c d e : Diagram) → Says x a b c (Some Nine) → rank (neg_ℤ x) d e < rank x a b
 falls_9 x a b c d e s = rw (s.0, neg_negative x s.0) (omega (arith, cond_1 (same d top), cond_1 (same e top)))
 
-pub falls_10 : (x : ℤ) (a b c d e : Diagram) → Says x a b c Ten → rank (neg_ℤ x) d e < rank x a b
+pub falls_10 : (x : ℤ) (a b c d e : Diagram) → Says x a b c (Some Ten) → rank (neg_ℤ x) d e < rank x a b
 falls_10 x a b c d e s = rw (s.0, neg_negative x s.0) (omega (arith, cond_1 (same d top), cond_1 (same e top)))
 
 -- more rewritings than the rank change nothing
@@ -92,20 +92,20 @@ unfolding rewrite
 enough zero x a b c h = absurd (not-suc-le-zero h)
 enough (suc k) x a b c h = go (rule x a.it b.it c.it) (says x a.it b.it c.it) (enough k)
   where
-    go : (r : Rule) → Says x a.it b.it c.it r
+    go : (r : Option Rule) → Says x a.it b.it c.it r
         → ((x : ℤ) (a b c : Part) → rank x a.it b.it < k → rewrite k x a b c ≡ rewrite (suc k) x a b c)
         → apply r (rewrite k) x a b c ≡ apply r (rewrite (suc k)) x a b c
-    go One s ih = refl
-    go Two s ih = refl
-    go Three s ih = refl
-    go Four s ih = refl
-    go Five s ih = ih x τ -τ a (omega (arith, falls_5 x a.it b.it c.it s))
-    go Six s ih = ih x -τ τ b (omega (arith, falls_6 x a.it b.it c.it s))
-    go Seven s ih = ih x a τ c (omega (arith, falls_7 x a.it b.it c.it s))
-    go Eight s ih = ih x τ b c (omega (arith, falls_8 x a.it b.it c.it s))
-    go Nine s ih = ap (after b.negated.formed) (ih (neg_ℤ x) -τ (plain b.negated.it) τ (omega (arith, falls_9 x a.it b.it c.it bottom b.negated.it s)))
-    go Ten s ih = ap (after a.negated.formed) (ih (neg_ℤ x) (plain a.negated.it) -τ τ (omega (arith, falls_10 x a.it b.it c.it a.negated.it bottom s)))
-    go Stop s ih = refl
+    go (Some One) s ih = refl
+    go (Some Two) s ih = refl
+    go (Some Three) s ih = refl
+    go (Some Four) s ih = refl
+    go (Some Five) s ih = ih x τ -τ a (omega (arith, falls_5 x a.it b.it c.it s))
+    go (Some Six) s ih = ih x -τ τ b (omega (arith, falls_6 x a.it b.it c.it s))
+    go (Some Seven) s ih = ih x a τ c (omega (arith, falls_7 x a.it b.it c.it s))
+    go (Some Eight) s ih = ih x τ b c (omega (arith, falls_8 x a.it b.it c.it s))
+    go (Some Nine) s ih = ap (after b.negated.formed) (ih (neg_ℤ x) -τ (plain b.negated.it) τ (omega (arith, falls_9 x a.it b.it c.it bottom b.negated.it s)))
+    go (Some Ten) s ih = ap (after a.negated.formed) (ih (neg_ℤ x) (plain a.negated.it) -τ τ (omega (arith, falls_10 x a.it b.it c.it a.negated.it bottom s)))
+    go None s ih = refl
 
 -- at a positive label no negation is asked for
 pub positive : (k : ℕ) (x : ℤ) (a b c a' b' c' : Part) → lt_z x (pos 0) ≡ false → a.it ≡ a'.it → b.it ≡ b'.it → c.it ≡ c'.it
@@ -114,26 +114,26 @@ unfolding rewrite
 positive zero x a b c a' b' c' p ea eb ec = rw (ea, eb, ec)
 positive (suc k) x a b c a' b' c' p ea eb ec =
     let er : rule x a'.it b'.it c'.it ≡ rule x a.it b.it c.it = rw (ea, eb, ec) in
-    subst (λ (r : Rule). apply r (rewrite k) x a b c ≡ apply (rule x a'.it b'.it c'.it) (rewrite k) x a' b' c') er
+    subst (λ (r : Option Rule). apply r (rewrite k) x a b c ≡ apply (rule x a'.it b'.it c'.it) (rewrite k) x a' b' c') er
     (go (rule x a'.it b'.it c'.it) (says x a'.it b'.it c'.it) (positive k))
   where
     sign : (t u : Part) → t.it ≡ u.it → signed x t ≡ signed x u
     sign t u e = rw (p, e)
 
-    go : (r : Rule) → Says x a'.it b'.it c'.it r
+    go : (r : Option Rule) → Says x a'.it b'.it c'.it r
         → ((x : ℤ) (a b c a' b' c' : Part) → lt_z x (pos 0) ≡ false → a.it ≡ a'.it → b.it ≡ b'.it → c.it ≡ c'.it → rewrite k x a b c ≡ rewrite k x a' b' c')
         → apply r (rewrite k) x a b c ≡ apply r (rewrite k) x a' b' c'
-    go One s ih = refl
-    go Two s ih = refl
-    go Three s ih = sign c c' ec
-    go Four s ih = sign a a' ea
-    go Five s ih = ih x τ -τ a τ -τ a' p refl refl ea
-    go Six s ih = ih x -τ τ b -τ τ b' p refl refl eb
-    go Seven s ih = ih x a τ c a' τ c' p ea refl ec
-    go Eight s ih = ih x τ b c τ b' c' p refl eb ec
-    go Nine s ih = absurd (both_ways _ p s.0)
-    go Ten s ih = absurd (both_ways _ p s.0)
-    go Stop s ih = rw (ea, eb, ec)
+    go (Some One) s ih = refl
+    go (Some Two) s ih = refl
+    go (Some Three) s ih = sign c c' ec
+    go (Some Four) s ih = sign a a' ea
+    go (Some Five) s ih = ih x τ -τ a τ -τ a' p refl refl ea
+    go (Some Six) s ih = ih x -τ τ b -τ τ b' p refl refl eb
+    go (Some Seven) s ih = ih x a τ c a' τ c' p ea refl ec
+    go (Some Eight) s ih = ih x τ b c τ b' c' p refl eb ec
+    go (Some Nine) s ih = absurd (both_ways _ p s.0)
+    go (Some Ten) s ih = absurd (both_ways _ p s.0)
+    go None s ih = rw (ea, eb, ec)
 
 -- a part whose label, and whose negation's, lies past x
 pub record High (n : ℕ) (x : ℤ) (p : Part) : Type 0 where
@@ -173,19 +173,19 @@ rewrite_level n (suc k) x a b c l ha hb hc = go (rule x a.it b.it c.it) (rewrite
         → High n x d → High n x e → nat_abs x ≤ level n (rewrite k (neg_ℤ x) d e τ).it
     turn d e ih hd he = rw nat_abs_neg at (ih (neg_ℤ x) d e τ (rw nat_abs_neg l) (high_neg n x d hd) (high_neg n x e he) (high_neg n x τ t))
 
-    go : (r : Rule) → ((x : ℤ) (a b c : Part) → nat_abs x ≤ n → High n x a → High n x b → High n x c → nat_abs x ≤ level n (rewrite k x a b c).it)
+    go : (r : Option Rule) → ((x : ℤ) (a b c : Part) → nat_abs x ≤ n → High n x a → High n x b → High n x c → nat_abs x ≤ level n (rewrite k x a b c).it)
         → nat_abs x ≤ level n (apply r (rewrite k) x a b c).it
-    go One ih = signed_level n x -τ f
-    go Two ih = signed_level n x -τ f
-    go Three ih = signed_level n x c hc
-    go Four ih = signed_level n x a ha
-    go Five ih = ih x τ -τ a l t f ha
-    go Six ih = ih x -τ τ b l f t hb
-    go Seven ih = ih x a τ c l ha t hc
-    go Eight ih = ih x τ b c l t hb hc
-    go Nine ih = turn -τ (plain b.negated.it) ih f (record { plainly = hb.turned; turned = hb.turned })
-    go Ten ih = turn (plain a.negated.it) -τ ih (record { plainly = ha.turned; turned = ha.turned }) f
-    go Stop ih = omega arith
+    go (Some One) ih = signed_level n x -τ f
+    go (Some Two) ih = signed_level n x -τ f
+    go (Some Three) ih = signed_level n x c hc
+    go (Some Four) ih = signed_level n x a ha
+    go (Some Five) ih = ih x τ -τ a l t f ha
+    go (Some Six) ih = ih x -τ τ b l f t hb
+    go (Some Seven) ih = ih x a τ c l ha t hc
+    go (Some Eight) ih = ih x τ b c l t hb hc
+    go (Some Nine) ih = turn -τ (plain b.negated.it) ih f (record { plainly = hb.turned; turned = hb.turned })
+    go (Some Ten) ih = turn (plain a.negated.it) -τ ih (record { plainly = ha.turned; turned = ha.turned }) f
+    go None ih = omega arith
 
 -- what order says of a quadruple
 pub record Rising (n : ℕ) (x : ℤ) (a b c : Diagram) : Type 0 where
@@ -226,11 +226,6 @@ order n x a b c r =
     (and_from _ _ (lt-ltb (nat_abs x) (level n a) r.low) (and_from _ _ (lt-ltb (nat_abs x) (level n b) r.high)
     (and_from _ _ (lt-ltb (nat_abs x) (level n c) r.rest) (and_from _ _ r.a_ordered (and_from _ _ r.b_ordered r.c_ordered))))))
 
--- the sign bears on no order
-pub order_neg : (n : ℕ) (x : ℤ) (a b c : Diagram) → ordered n (node x a b c) ≡ true → ordered n (node (neg_ℤ x) a b c) ≡ true
-unfolding ordered
-order_neg n x a b c o = rw nat_abs_neg o
-
 pub negate_level : (n : ℕ) (d : Diagram) → ordered n d ≡ true → level n d ≤ level n (negate d).it
 unfolding negate
 negate_level n top o = omega arith
@@ -260,37 +255,37 @@ rank_small x a b = go (lt_z x (pos 0)) (cond_1 (same a top)) (cond_1 (same b top
     go false p q = omega arith
 
 -- the rules as equations
-pub law : (x : ℤ) (a b c : Diagram) (r : Rule) → rule x a b c ≡ r → reduce x a b c ≡ apply r (rewrite 6) x (part a) (part b) (part c)
+pub law : (x : ℤ) (a b c : Diagram) (r : Option Rule) → rule x a b c ≡ r → reduce x a b c ≡ apply r (rewrite 6) x (part a) (part b) (part c)
 unfolding rewrite
 law x a b c r e =
-    subst (λ (v : Rule). reduce x a b c ≡ apply v (rewrite 6) x (part a) (part b) (part c)) e
+    subst (λ (v : Option Rule). reduce x a b c ≡ apply v (rewrite 6) x (part a) (part b) (part c)) e
     (enough 6 x (part a) (part b) (part c) (rank_small x a b))
 
-pub law_5 : (x : ℤ) (a b c : Diagram) → rule x a b c ≡ Five → reduce x a b c ≡ reduce x top bottom a
+pub law_5 : (x : ℤ) (a b c : Diagram) → rule x a b c ≡ Some Five → reduce x a b c ≡ reduce x top bottom a
 unfolding negate
-law_5 x a b c e = law x a b c Five e
+law_5 x a b c e = law x a b c (Some Five) e
 
-pub law_6 : (x : ℤ) (a b c : Diagram) → rule x a b c ≡ Six → reduce x a b c ≡ reduce x bottom top b
+pub law_6 : (x : ℤ) (a b c : Diagram) → rule x a b c ≡ Some Six → reduce x a b c ≡ reduce x bottom top b
 unfolding negate
-law_6 x a b c e = law x a b c Six e
+law_6 x a b c e = law x a b c (Some Six) e
 
-pub law_7 : (x : ℤ) (a b c : Diagram) → rule x a b c ≡ Seven → reduce x a b c ≡ reduce x a top c
+pub law_7 : (x : ℤ) (a b c : Diagram) → rule x a b c ≡ Some Seven → reduce x a b c ≡ reduce x a top c
 unfolding negate
-law_7 x a b c e = law x a b c Seven e
+law_7 x a b c e = law x a b c (Some Seven) e
 
-pub law_8 : (x : ℤ) (a b c : Diagram) → rule x a b c ≡ Eight → reduce x a b c ≡ reduce x top b c
+pub law_8 : (x : ℤ) (a b c : Diagram) → rule x a b c ≡ Some Eight → reduce x a b c ≡ reduce x top b c
 unfolding negate
-law_8 x a b c e = law x a b c Eight e
+law_8 x a b c e = law x a b c (Some Eight) e
 
-pub said : (x : ℤ) (a b c : Diagram) (r : Rule) → rule x a b c ≡ r → Says x a b c r
+pub said : (x : ℤ) (a b c : Diagram) (r : Option Rule) → rule x a b c ≡ r → Says x a b c r
 said x a b c r e = subst (Says x a b c) e (says x a b c)
 
-pub law_9 : (x : ℤ) (a b c : Diagram) → rule x a b c ≡ Nine → reduce x a b c ≡ after (negate b).formed (reduce (neg_ℤ x) bottom (negate b).it top)
+pub law_9 : (x : ℤ) (a b c : Diagram) → rule x a b c ≡ Some Nine → reduce x a b c ≡ after (negate b).formed (reduce (neg_ℤ x) bottom (negate b).it top)
 law_9 x a b c e =
-    law x a b c Nine e
-    ∙ ap (after (negate b).formed) (positive 6 (neg_ℤ x) -τ (plain (negate b).it) τ (part bottom) (part (negate b).it) (part top) (neg_negative x (said x a b c Nine e).0) refl refl refl)
+    law x a b c (Some Nine) e
+    ∙ ap (after (negate b).formed) (positive 6 (neg_ℤ x) -τ (plain (negate b).it) τ (part bottom) (part (negate b).it) (part top) (neg_negative x (said x a b c (Some Nine) e).0) refl refl refl)
 
-pub law_10 : (x : ℤ) (a b c : Diagram) → rule x a b c ≡ Ten → reduce x a b c ≡ after (negate a).formed (reduce (neg_ℤ x) (negate a).it bottom top)
+pub law_10 : (x : ℤ) (a b c : Diagram) → rule x a b c ≡ Some Ten → reduce x a b c ≡ after (negate a).formed (reduce (neg_ℤ x) (negate a).it bottom top)
 law_10 x a b c e =
-    law x a b c Ten e
-    ∙ ap (after (negate a).formed) (positive 6 (neg_ℤ x) (plain (negate a).it) -τ τ (part (negate a).it) (part bottom) (part top) (neg_negative x (said x a b c Ten e).0) refl refl refl)
+    law x a b c (Some Ten) e
+    ∙ ap (after (negate a).formed) (positive 6 (neg_ℤ x) (plain (negate a).it) -τ τ (part (negate a).it) (part bottom) (part top) (neg_negative x (said x a b c (Some Ten) e).0) refl refl refl)

@@ -1,11 +1,11 @@
-use Rattle.std.proofs.Common.{◌≡◌, ℕ, zero, suc, ◌<◌, Bool, true, false, cond, not, ℤ, pos, negsuc, neg_ℤ, nat_abs, sym, refl, ◌∙◌, zero-le, not-suc-le-zero}
+use Rattle.std.proofs.Common.{Some, None, Option, ◌≡◌, ℕ, zero, suc, ◌<◌, Bool, true, false, cond, not, ℤ, pos, negsuc, neg_ℤ, nat_abs, sym, refl, ◌∙◌, zero-le, not-suc-le-zero}
 use lib.Signed.{lt_z}
 use Rattle.std.proofs.lemmas.Bool.{both_ways, le-ltb}
 use Rattle.diagram.specs.Diagrams.{Diagram, top, bottom, node, ordered, same}
 use Rattle.diagram.specs.Rules.{Part, τ, -τ, plain, listed, signed, rule, apply, rewrite, negate, part, reduce}
 use Rattle.diagram.specs.Values.{turned, mean, Assignment, value}
 use Rattle.diagram.specs.declared.rule.Rule.{Rule}
-use Rattle.diagram.specs.declared.rule.Rule.TheVariants.{One, Two, Three, Four, Five, Six, Seven, Eight, Nine, Ten, Stop}
+use Rattle.diagram.specs.declared.rule.Rule.TheVariants.{One, Two, Three, Four, Five, Six, Seven, Eight, Nine, Ten}
 use Rattle.diagram.proofs.Same.{same_true}
 use Rattle.diagram.proofs.Rewrites.{neg_negative, Says, says, rising, nat_abs_neg}
 use Rattle.diagram.proofs.Bools.{t_one, t_two, t_three, t_four, t_five, t_six, t_seven, t_eight, t_nine, t_ten, turned_neg}
@@ -89,24 +89,24 @@ value_rewrite (suc k) g x a b c h = go (rule x a.it b.it c.it) (says x a.it b.it
     v : Bool
     v = g (nat_abs x)
 
-    go : (r : Rule) → Says x a.it b.it c.it r → IH → value (apply r (rewrite k) x a b c).it g ≡ mean s v va vb vc
-    go One y ih = rw (is_bottom a y.0, is_bottom b y.1) (value_signed g x -τ (λ _. honest--τ g) ∙ rw (value_bottom g) (t_one s v vc))
-    go Two y ih = rw (is_bottom c y) (value_signed g x -τ (λ _. honest--τ g) ∙ rw (value_bottom g) (t_two s v va vb))
-    go Three y ih = rw (is_top a y.0, is_top b y.1) (value_signed g x c (λ e. (h e).three) ∙ t_three s v vc)
-    go Four y ih = rw (is_top c y.1, ← alike a b y.0) (value_signed g x a (λ e. (h e).one) ∙ t_four s v va)
-    go Five y ih = rw (is_bottom b y.0, is_top c y.1.0)
+    go : (r : Option Rule) → Says x a.it b.it c.it r → IH → value (apply r (rewrite k) x a b c).it g ≡ mean s v va vb vc
+    go (Some One) y ih = rw (is_bottom a y.0, is_bottom b y.1) (value_signed g x -τ (λ _. honest--τ g) ∙ rw (value_bottom g) (t_one s v vc))
+    go (Some Two) y ih = rw (is_bottom c y) (value_signed g x -τ (λ _. honest--τ g) ∙ rw (value_bottom g) (t_two s v va vb))
+    go (Some Three) y ih = rw (is_top a y.0, is_top b y.1) (value_signed g x c (λ e. (h e).three) ∙ t_three s v vc)
+    go (Some Four) y ih = rw (is_top c y.1, ← alike a b y.0) (value_signed g x a (λ e. (h e).one) ∙ t_four s v va)
+    go (Some Five) y ih = rw (is_bottom b y.0, is_top c y.1.0)
         (ih x τ -τ a (λ e. record { one = honest-τ g; two = honest--τ g; three = (h e).one }) ∙ rw (value_top g, value_bottom g) (t_five s v va))
-    go Six y ih = rw (is_bottom a y.0, is_top c y.1.0)
+    go (Some Six) y ih = rw (is_bottom a y.0, is_top c y.1.0)
         (ih x -τ τ b (λ e. record { one = honest--τ g; two = honest-τ g; three = (h e).two }) ∙ rw (value_top g, value_bottom g) (t_six s v vb))
-    go Seven y ih = rw (alike b c y.0) (ih x a τ c (λ e. record { one = (h e).one; two = honest-τ g; three = (h e).three }) ∙ rw (value_top g) (t_seven s v va vc))
-    go Eight y ih = rw (alike a c y.0) (ih x τ b c (λ e. record { one = honest-τ g; two = (h e).two; three = (h e).three }) ∙ rw (value_top g) (t_eight s v vb vc))
-    go Nine y ih = rw (is_top a y.1.0, is_top c y.1.1, y.0)
+    go (Some Seven) y ih = rw (alike b c y.0) (ih x a τ c (λ e. record { one = (h e).one; two = honest-τ g; three = (h e).three }) ∙ rw (value_top g) (t_seven s v va vc))
+    go (Some Eight) y ih = rw (alike a c y.0) (ih x τ b c (λ e. record { one = honest-τ g; two = (h e).two; three = (h e).three }) ∙ rw (value_top g) (t_eight s v vb vc))
+    go (Some Nine) y ih = rw (is_top a y.1.0, is_top c y.1.1, y.0)
         (ih (neg_ℤ x) -τ (plain b.negated.it) τ (λ e. absurd (both_ways _ (neg_negative x y.0) e))
         ∙ rw (value_top g, value_bottom g, neg_negative x y.0, nat_abs_neg x, (h y.0).two) (t_nine v vb))
-    go Ten y ih = rw (is_top b y.1.0, is_top c y.1.1, y.0)
+    go (Some Ten) y ih = rw (is_top b y.1.0, is_top c y.1.1, y.0)
         (ih (neg_ℤ x) (plain a.negated.it) -τ τ (λ e. absurd (both_ways _ (neg_negative x y.0) e))
         ∙ rw (value_top g, value_bottom g, neg_negative x y.0, nat_abs_neg x, (h y.0).one) (t_ten v va))
-    go Stop y ih = value_node g x a.it b.it c.it
+    go None y ih = value_node g x a.it b.it c.it
 
 -- negation is the complement
 pub value_negate : (n : ℕ) (g : Assignment) (d : Diagram) → ordered n d ≡ true → value (negate d).it g ≡ not (value d g)

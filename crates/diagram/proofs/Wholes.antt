@@ -1,14 +1,13 @@
 -- Ordered and reduced diagrams give and form ordered and reduced diagrams.
-use Rattle.std.proofs.Common.{◌≡◌, ℕ, zero, suc, ◌+◌, ◌<◌, ◌≤◌, Bool, true, false, cond, ◌⊎◌, List, [], ◌∷◌, ◌++◌, ℤ, pos, neg_ℤ, nat_abs, refl, ap, subst, inl, inr, not-suc-le-zero, arith}
+use Rattle.std.proofs.Common.{Some, None, Option, ◌≡◌, ℕ, zero, suc, ◌+◌, ◌<◌, ◌≤◌, Bool, true, false, cond, List, [], ◌∷◌, ◌++◌, ℤ, pos, neg_ℤ, nat_abs, refl, ap, not-suc-le-zero, arith}
 use lib.Signed.{lt_z}
-use Rattle.std.proofs.lemmas.Bool.{and_parts, and_from, or_cases, false≢true}
-use Rattle.diagram.specs.Diagrams.{Diagram, top, bottom, node, ordered, same, has, Made}
+use Rattle.std.proofs.lemmas.Bool.{and_parts, and_from, false≢true}
+use Rattle.diagram.specs.Diagrams.{Diagram, top, bottom, node, ordered, Made}
 use Rattle.diagram.specs.Rules.{Part, τ, -τ, plain, listed, signed, after, rule, apply, rewrite, negate, part, reduce}
 use Rattle.diagram.specs.Reduced.{stops, reduced, proper, all_proper}
 use Rattle.diagram.specs.Shapes.{Whole, Well}
 use Rattle.diagram.specs.declared.rule.Rule.{Rule}
-use Rattle.diagram.specs.declared.rule.Rule.TheVariants.{One, Two, Three, Four, Five, Six, Seven, Eight, Nine, Ten, Stop}
-use Rattle.diagram.proofs.Same.{same_true}
+use Rattle.diagram.specs.declared.rule.Rule.TheVariants.{One, Two, Three, Four, Five, Six, Seven, Eight, Nine, Ten}
 use Rattle.diagram.proofs.Rewrites.{Says, said, rank, rank_small, falls_5, falls_6, falls_7, falls_8, falls_9, falls_10, rising, order, nat_abs_neg}
 use Rattle.diagram.proofs.Goods.{Over, over_negate, good_reduce}
 use Rattle.diagram.proofs.Laws.{deep_negate}
@@ -26,12 +25,12 @@ all_listed n bottom o r = refl
 all_listed n (node x a b c) o r = and_from _ _ (and_from _ _ o r) refl
 
 -- a node that no rule changes
-pub reduced_node : (x : ℤ) (a b c : Diagram) → rule x a b c ≡ Stop → reduced a ≡ true → reduced b ≡ true → reduced c ≡ true → reduced (node x a b c) ≡ true
+pub reduced_node : (x : ℤ) (a b c : Diagram) → rule x a b c ≡ None → reduced a ≡ true → reduced b ≡ true → reduced c ≡ true → reduced (node x a b c) ≡ true
 unfolding reduced
 reduced_node x a b c e ra rb rc = and_from _ _ (ap stops e) (and_from _ _ ra (and_from _ _ rb rc))
 
 pub record PartsReduced (x : ℤ) (a b c : Diagram) : Type 0 where
-  pub here : rule x a b c ≡ Stop
+  pub here : rule x a b c ≡ None
   pub low : reduced a ≡ true
   pub high : reduced b ≡ true
   pub rest : reduced c ≡ true
@@ -44,18 +43,9 @@ reduced_parts x a b c e =
     let r = and_parts (reduced b) _ q.1 in
     record { here = only (rule x a b c) p.0; low = q.0; high = r.0; rest = r.1 }
   where
-    only : (r : Rule) → stops r ≡ true → r ≡ Stop
-    only One e = absurd (false≢true e)
-    only Two e = absurd (false≢true e)
-    only Three e = absurd (false≢true e)
-    only Four e = absurd (false≢true e)
-    only Five e = absurd (false≢true e)
-    only Six e = absurd (false≢true e)
-    only Seven e = absurd (false≢true e)
-    only Eight e = absurd (false≢true e)
-    only Nine e = absurd (false≢true e)
-    only Ten e = absurd (false≢true e)
-    only Stop e = refl
+    only : (r : Option Rule) → stops r ≡ true → r ≡ None
+    only (Some r) e = absurd (false≢true e)
+    only None e = refl
 
 -- a result that is reduced, with all that was formed
 record Rests (n : ℕ) (m : Made) : Type 0 where
@@ -98,7 +88,7 @@ signed_rests n x p k = go (lt_z x (pos 0))
     go true = k.negated
     go false = record { rests = k.rests; all = all_listed n p.it k.over.fine k.rests }
 
-stored_rests : (n : ℕ) (x : ℤ) (a b c : Part) → 0 < nat_abs x → nat_abs x ≤ n → Kept n x a → Kept n x b → Kept n x c → rule x a.it b.it c.it ≡ Stop
+stored_rests : (n : ℕ) (x : ℤ) (a b c : Part) → 0 < nat_abs x → nat_abs x ≤ n → Kept n x a → Kept n x b → Kept n x c → rule x a.it b.it c.it ≡ None
     → Rests n (record { it = node x a.it b.it c.it; formed = node x a.it b.it c.it ∷ [] })
 unfolding all_proper
 stored_rests n x a b c z l ka kb kc e =
@@ -128,22 +118,22 @@ rewrite_rests n (suc k) x a b c z l h ka kb kc = go (rule x a.it b.it c.it) refl
     turn : (d e : Part) → IH → rank (neg_ℤ x) d.it e.it < rank x a.it b.it → Kept n x d → Kept n x e → Rests n (rewrite k (neg_ℤ x) d e τ)
     turn d e ih r kd ke = ih (neg_ℤ x) d e τ (rw nat_abs_neg z) (rw nat_abs_neg l) (omega arith) (kept_turned n x d kd) (kept_turned n x e ke) (kept_turned n x τ t)
 
-    go : (r : Rule) → rule x a.it b.it c.it ≡ r → ((r : Rule) → rule x a.it b.it c.it ≡ r → Says x a.it b.it c.it r) → IH → Rests n (apply r (rewrite k) x a b c)
-    go One e s ih = signed_rests n x -τ f
-    go Two e s ih = signed_rests n x -τ f
-    go Three e s ih = signed_rests n x c kc
-    go Four e s ih = signed_rests n x a ka
-    go Five e s ih = ih x τ -τ a z l (omega (arith, falls_5 x a.it b.it c.it (s Five e))) t f ka
-    go Six e s ih = ih x -τ τ b z l (omega (arith, falls_6 x a.it b.it c.it (s Six e))) f t kb
-    go Seven e s ih = ih x a τ c z l (omega (arith, falls_7 x a.it b.it c.it (s Seven e))) ka t kc
-    go Eight e s ih = ih x τ b c z l (omega (arith, falls_8 x a.it b.it c.it (s Eight e))) t kb kc
-    go Nine e s ih =
+    go : (r : Option Rule) → rule x a.it b.it c.it ≡ r → ((r : Option Rule) → rule x a.it b.it c.it ≡ r → Says x a.it b.it c.it r) → IH → Rests n (apply r (rewrite k) x a b c)
+    go (Some One) e s ih = signed_rests n x -τ f
+    go (Some Two) e s ih = signed_rests n x -τ f
+    go (Some Three) e s ih = signed_rests n x c kc
+    go (Some Four) e s ih = signed_rests n x a ka
+    go (Some Five) e s ih = ih x τ -τ a z l (omega (arith, falls_5 x a.it b.it c.it (s (Some Five) e))) t f ka
+    go (Some Six) e s ih = ih x -τ τ b z l (omega (arith, falls_6 x a.it b.it c.it (s (Some Six) e))) f t kb
+    go (Some Seven) e s ih = ih x a τ c z l (omega (arith, falls_7 x a.it b.it c.it (s (Some Seven) e))) ka t kc
+    go (Some Eight) e s ih = ih x τ b c z l (omega (arith, falls_8 x a.it b.it c.it (s (Some Eight) e))) t kb kc
+    go (Some Nine) e s ih =
         after_rests n b.negated (rewrite k (neg_ℤ x) -τ (plain b.negated.it) τ) kb.negated
-        (turn -τ (plain b.negated.it) ih (falls_9 x a.it b.it c.it bottom b.negated.it (s Nine e)) f (kept_plain n x b.negated.it kb.over_negated kb.negated.rests))
-    go Ten e s ih =
+        (turn -τ (plain b.negated.it) ih (falls_9 x a.it b.it c.it bottom b.negated.it (s (Some Nine) e)) f (kept_plain n x b.negated.it kb.over_negated kb.negated.rests))
+    go (Some Ten) e s ih =
         after_rests n a.negated (rewrite k (neg_ℤ x) (plain a.negated.it) -τ τ) ka.negated
-        (turn (plain a.negated.it) -τ ih (falls_10 x a.it b.it c.it a.negated.it bottom (s Ten e)) (kept_plain n x a.negated.it ka.over_negated ka.negated.rests) f)
-    go Stop e s ih = stored_rests n x a b c z l ka kb kc e
+        (turn (plain a.negated.it) -τ ih (falls_10 x a.it b.it c.it a.negated.it bottom (s (Some Ten) e)) (kept_plain n x a.negated.it ka.over_negated ka.negated.rests) f)
+    go None e s ih = stored_rests n x a b c z l ka kb kc e
 
 -- negation
 kept_part : (n : ℕ) (x : ℤ) (d : Diagram) → Over n x d → reduced d ≡ true → Rests n (negate d) → Kept n x (part d)
@@ -179,15 +169,3 @@ well_reduce n x a b c z l wa wb wc =
 
     kept : (d : Diagram) → Whole n (nat_abs x + 1) d → Kept n x (part d)
     kept d w = kept_part n x d (over d w) w.rests (negate_rests n d w.deep.fine w.rests)
-
--- what stands in a list of ordered and reduced diagrams is one
-pub all_has : (n : ℕ) (ds : List Diagram) (d : Diagram) → all_proper n ds ≡ true → has ds d ≡ true → proper n d ≡ true
-unfolding all_proper has
-all_has n [] d p h = absurd (false≢true h)
-all_has n (e ∷ es) d p h =
-    let q = and_parts (proper n e) (all_proper n es) p in
-    go q.0 (or_cases (same e d) (has es d) h) (all_has n es d q.1)
-  where
-    go : proper n e ≡ true → (same e d ≡ true) ⊎ (has es d ≡ true) → (has es d ≡ true → proper n d ≡ true) → proper n d ≡ true
-    go p (inl s) r = subst (λ (v : Diagram). proper n v ≡ true) (same_true e d s) p
-    go p (inr k) r = r k

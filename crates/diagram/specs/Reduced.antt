@@ -1,23 +1,13 @@
 -- Reduced diagrams: no rewrite rule applies at any node.
-use Rattle.std.specs.Prelude.{ℕ, Bool, true, false, ◌&&◌, List, [], ◌∷◌}
+use Rattle.std.specs.Prelude.{Some, None, Option, ℕ, Bool, true, false, ◌&&◌, List, [], ◌∷◌}
 use Rattle.diagram.specs.Diagrams.{Diagram, top, bottom, node, ordered}
 use Rattle.diagram.specs.Rules.{rule}
 use Rattle.diagram.specs.declared.rule.Rule.{Rule}
-use Rattle.diagram.specs.declared.rule.Rule.TheVariants.{One, Two, Three, Four, Five, Six, Seven, Eight, Nine, Ten, Stop}
 
 -- no rule applies
-abbrev pub stops : Rule → Bool
-stops One = false
-stops Two = false
-stops Three = false
-stops Four = false
-stops Five = false
-stops Six = false
-stops Seven = false
-stops Eight = false
-stops Nine = false
-stops Ten = false
-stops Stop = true
+abbrev pub stops : Option Rule → Bool
+stops (Some r) = false
+stops None = true
 
 -- no rule applies at any node of the diagram
 unfoldable pub reduced : Diagram → Bool

@@ -1,26 +1,26 @@
 -- The rewrite rules, reduction and negation.
-use Rattle.std.specs.Prelude.{ℕ, zero, suc, Bool, cond, not, ◌&&◌, List, [], ◌∷◌, ◌++◌, ℤ, pos, neg_ℤ, int_lt}
+use Rattle.std.specs.Prelude.{Some, None, Option, ℕ, zero, suc, Bool, cond, not, ◌&&◌, List, [], ◌∷◌, ◌++◌, ℤ, pos, neg_ℤ, int_lt}
 use Rattle.diagram.specs.Diagrams.{Diagram, top, bottom, node, same, Made}
 use Rattle.diagram.specs.declared.rule.Rule.{Rule}
-use Rattle.diagram.specs.declared.rule.Rule.TheVariants.{One, Two, Three, Four, Five, Six, Seven, Eight, Nine, Ten, Stop}
+use Rattle.diagram.specs.declared.rule.Rule.TheVariants.{One, Two, Three, Four, Five, Six, Seven, Eight, Nine, Ten}
 
 -- the first rule that changes a quadruple, by what is asked of its parts:
 -- which are τ or −τ, which are equal, and whether the label is negative
-abbrev pub pick : (aT aB bT bB cT cB ab bc ac negative : Bool) → Rule
+abbrev pub pick : (aT aB bT bB cT cB ab bc ac negative : Bool) → Option Rule
 pick aT aB bT bB cT cB ab bc ac negative =
-    cond (aB && bB) One
-    (cond cB Two
-    (cond (aT && bT) Three
-    (cond (ab && cT) Four
-    (cond (bB && (cT && not aT)) Five
-    (cond (aB && (cT && not bT)) Six
-    (cond (bc && not bT) Seven
-    (cond (ac && not aT) Eight
-    (cond (negative && (aT && cT)) Nine
-    (cond (negative && (bT && cT)) Ten Stop)))))))))
+    cond (aB && bB) (Some One)
+    (cond cB (Some Two)
+    (cond (aT && bT) (Some Three)
+    (cond (ab && cT) (Some Four)
+    (cond (bB && (cT && not aT)) (Some Five)
+    (cond (aB && (cT && not bT)) (Some Six)
+    (cond (bc && not bT) (Some Seven)
+    (cond (ac && not aT) (Some Eight)
+    (cond (negative && (aT && cT)) (Some Nine)
+    (cond (negative && (bT && cT)) (Some Ten) None)))))))))
 
 -- the first rule that changes (x, a, b, c)
-abbrev pub rule : ℤ → Diagram → Diagram → Diagram → Rule
+abbrev pub rule : ℤ → Diagram → Diagram → Diagram → Option Rule
 rule x a b c =
     pick (same a top) (same a bottom) (same b top) (same b bottom) (same c top) (same c bottom) (same a b) (same b c) (same a c)
     (int_lt x (pos 0))
@@ -61,18 +61,18 @@ abbrev pub stored : ℤ → Diagram → Diagram → Diagram → Made
 stored x a b c = record { it = node x a b c; formed = node x a b c ∷ [] }
 
 -- what a rule makes of a quadruple; `again` goes on with another
-abbrev pub apply : Rule → (ℤ → Part → Part → Part → Made) → ℤ → Part → Part → Part → Made
-apply One again x a b c = signed x -τ
-apply Two again x a b c = signed x -τ
-apply Three again x a b c = signed x c
-apply Four again x a b c = signed x a
-apply Five again x a b c = again x τ -τ a
-apply Six again x a b c = again x -τ τ b
-apply Seven again x a b c = again x a τ c
-apply Eight again x a b c = again x τ b c
-apply Nine again x a b c = after b.negated.formed (again (neg_ℤ x) -τ (plain b.negated.it) τ)
-apply Ten again x a b c = after a.negated.formed (again (neg_ℤ x) (plain a.negated.it) -τ τ)
-apply Stop again x a b c = stored x a.it b.it c.it
+abbrev pub apply : Option Rule → (ℤ → Part → Part → Part → Made) → ℤ → Part → Part → Part → Made
+apply (Some One) again x a b c = signed x -τ
+apply (Some Two) again x a b c = signed x -τ
+apply (Some Three) again x a b c = signed x c
+apply (Some Four) again x a b c = signed x a
+apply (Some Five) again x a b c = again x τ -τ a
+apply (Some Six) again x a b c = again x -τ τ b
+apply (Some Seven) again x a b c = again x a τ c
+apply (Some Eight) again x a b c = again x τ b c
+apply (Some Nine) again x a b c = after b.negated.formed (again (neg_ℤ x) -τ (plain b.negated.it) τ)
+apply (Some Ten) again x a b c = after a.negated.formed (again (neg_ℤ x) (plain a.negated.it) -τ τ)
+apply None again x a b c = stored x a.it b.it c.it
 
 -- the rules, at most k times; `first` in RuleLaws says that six are always enough
 unfoldable pub rewrite : ℕ → ℤ → Part → Part → Part → Made

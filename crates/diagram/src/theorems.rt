@@ -8,57 +8,41 @@ ghost use Rattle.diagram.specs.Meanings.{Meaning};
 ghost use Rattle.diagram.specs.Examples.{Examples};
 
 // Reduction follows the ten rewrite rules.
-pub fn rules_stand() -> u8
+pub fn rules_stand()
     ensures { Rewriting }
-{
-    0
-}
+{}
 
 // Negation reduces with the other sign.
-pub fn negation_stands() -> u8
+pub fn negation_stands()
     ensures { Negating }
-{
-    0
-}
+{}
 
 // Conjunction follows its table of cases.
-pub fn conjunction_stands() -> u8
+pub fn conjunction_stands()
     ensures { (n : ℕ) → Conjunction n }
-{
-    0
-}
+{}
 
 // Literals, fixing, forall and empty follow their rules.
-pub fn fixing_stands() -> u8
+pub fn fixing_stands()
     ensures { (n : ℕ) → Fixing n }
-{
-    0
-}
+{}
 
 // Ordered diagrams give ordered diagrams, with labels from 1 to n.
-pub fn order_stands() -> u8
+pub fn order_stands()
     ensures { (n : ℕ) → Order n }
-{
-    0
-}
+{}
 
 // Reduced diagrams give and form reduced diagrams.
-pub fn reduction_stands() -> u8
+pub fn reduction_stands()
     ensures { (n : ℕ) → Reduction n }
-{
-    0
-}
+{}
 
 // The operations mean what their names say, and empty decides.
-pub fn values_stand() -> u8
+pub fn values_stand()
     ensures { (n : ℕ) → Meaning n }
-{
-    0
-}
+{}
 
 // Worked examples with two variables.
-pub fn examples_stand() -> u8
+pub fn examples_stand()
     ensures { Examples }
-{
-    0
-}
+{}
