@@ -42,22 +42,13 @@ fn first_bits(length: u32) -> u128
 pub fn value(address: u128, port: Option<u16>) -> Assignment
     ensures { result ≡ value_bytes address port }
 {
-    match port {
-        Some(p) => frame(address, p),
-        None => frame(address, 0),
-    }
+    frame(address, port.unwrap_or(0))
 }
 
 // The bits that count: the first `length` of the address, all of them without a length, and those of a port.
 pub fn care(length: Option<u32>, port: Option<u16>) -> Assignment
     ensures { result ≡ care_bytes length port }
 {
-    let address = match length {
-        Some(k) => first_bits(k),
-        None => u128::MAX,
-    };
-    match port {
-        Some(_) => frame(address, u16::MAX),
-        None => frame(address, 0),
-    }
+    let address = length.map_or(u128::MAX, |k| first_bits(k));
+    frame(address, port.map_or(0, |_| u16::MAX))
 }
