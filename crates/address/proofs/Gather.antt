@@ -1,15 +1,15 @@
 -- Reading groups one after another.
-use Rattle.std.proofs.Common.{◌≡◌, ℕ, zero, suc, ◌+◌, ◌-◌, ◌*◌, ◌^◌, ◌<◌, ◌≤◌, min, false, cond, List, [], ◌∷◌, ◌++◌, length, get_or, take, drop, replicate, Ok, Err, Result, sym, refl, ap, ◌∙◌, subst, append_assoc, add-zero, mul_assoc, add-mul, mul-one, arith}
-use native.Mathlib.Nat.{pow-succ', pow-zero, sub-zero}
+use Rattle.std.proofs.Common.{◌≡◌, ℕ, zero, suc, ◌+◌, ◌-◌, ◌*◌, ◌^◌, ◌<◌, ◌≤◌, min, List, [], ◌∷◌, ◌++◌, length, drop, replicate, Ok, Err, Result, sym, refl, ap, ◌∙◌, append_assoc, add-zero, mul_assoc, add-mul, mul-one, arith}
+use native.Mathlib.Nat.{pow-succ', pow-zero}
 use Rattle.std.specs.Int.Digits.{number_from_digits, number_from_digits_after}
 use Rattle.std.proofs.lemmas.Nat.{pow-add}
 use Rattle.std.proofs.lemmas.Int.Digits.{number_push, number_after_append}
-use Rattle.std.proofs.lemmas.List.{length_push, drop_more, drop_all, at_drop_all}
-use Rattle.std.proofs.lemmas.Bool.{le-leb, lt-ltb}
+use Rattle.std.proofs.lemmas.List.{length_push, drop_more}
+use Rattle.std.proofs.lemmas.Bool.{le-leb}
 use Rattle.text.specs.Split.{Part, split}
 use Rattle.address.specs.declared.fault.GroupFault.{GroupFault}
 use Rattle.address.specs.declared.groups.Groups.{Groups}
-use Rattle.address.specs.Address.{group_at, with_first, first_then, groups, opens_gap, before_gap_of, side, gapped, address_groups, numbered}
+use Rattle.address.specs.Address.{group_at, with_first, first_then, groups, side, gapped, numbered}
 use Rattle.address.specs.Gathered.{Tally, Gathered}
 
 -- the values before what comes
@@ -43,19 +43,7 @@ sofar_more g h rest all more f v s r o e n = record {
   whole = s.whole ∙ ap (λ x. with_front s.items (groups x)) r ∙ ap (with_front s.items) (groups_ok f more v o) ∙ front_push s.items v (groups more);
 }
 
-pub gap_more : (xs : List ℕ) (i : ℕ) → i < length xs → false ≡ opens_gap (drop i xs) → before_gap_of (drop i xs) ≡ suc (before_gap_of (drop (i + 1) xs))
-gap_more xs i h e =
-    let d = drop_more xs i 0 h in
-    let f : false ≡ opens_gap (get_or xs i 0 ∷ drop (i + 1) xs) = e ∙ ap opens_gap d in
-    ap before_gap_of d ∙ subst (λ b. cond b 0 (suc (before_gap_of (drop (i + 1) xs))) ≡ suc (before_gap_of (drop (i + 1) xs))) f refl
-
-pub gap_end : (xs : List ℕ) (i : ℕ) → length xs ≤ i → before_gap_of (drop i xs) ≡ 0
-gap_end xs i h = at_drop_all before_gap_of xs i h
-
--- an empty side, and one that is not
-pub side_none : (text : List ℕ) (i : ℕ) → length text ≤ i → groups (side i (drop i text)) ≡ Ok []
-side_none text i h = ap (λ t. groups (side i t)) (drop_all i text h)
-
+-- a side that is not empty
 pub side_some : (text : List ℕ) (i : ℕ) → i < length text → side i (drop i text) ≡ split 58 i (drop i text)
 side_some text i h = let d = drop_more text i 0 h in ap (side i) d ∙ ap (split 58 i) (sym d)
 
@@ -86,7 +74,3 @@ gap_of f b ls rs r s t h e =
 
 pub gap_ok : (f b : Groups) (x y : Result (List ℕ) GroupFault) (r : ℕ) → Gathered f x → Gathered b y → f.count + b.count ≤ 7 → r ≡ f.value * 65536 ^ (8 - f.count) + b.value → Ok r ≡ numbered (gapped x y)
 gap_ok f b x y r s t h e = rw (s.are, t.are) (gap_of f b s.items t.items r s.tally t.tally h e)
-
--- the parts beside `::`, as the checker reads them
-pub gap_address : (n : ℕ) (text : List ℕ) → n ≡ before_gap_of text → n < length text → gapped (groups (side 0 (take (n - 0) text))) (groups (side (n + 2) (drop (n + 2) text))) ≡ address_groups text
-gap_address n text e h = rw (← e, lt-ltb n (length text) h, sub-zero) refl

@@ -1,7 +1,7 @@
 pub mod Shifts
 pub mod Gather
 pub mod Spelling
-pub mod Slash
+pub mod Gaps
 pub mod Prefixes
 pub mod Refusing
 pub mod Barring

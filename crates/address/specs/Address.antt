@@ -43,6 +43,10 @@ abbrev pub before_gap_of : List ℕ → ℕ
 before_gap_of [] = 0
 before_gap_of (x ∷ xs) = cond (opens_gap (x ∷ xs)) 0 (suc (before_gap_of xs))
 
+-- the place of the first `::`, where there is one
+abbrev pub gap_of : List ℕ → Option ℕ
+gap_of text = cond (nat_lt (before_gap_of text) (length text)) (Some (before_gap_of text)) None
+
 -- the pieces of a side of `::` that begins at p; an empty side has none
 abbrev pub side : ℕ → List ℕ → List Part
 side p [] = []

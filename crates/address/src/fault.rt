@@ -3,13 +3,13 @@ ghost use Rattle.address.specs.declared.fault.AddressFault.{AddressFault};
 ghost use Rattle.address.specs.Faults.{address_number, address_place, moved};
 
 // A piece of address text that is no group.
-#[derive(Clone, Copy, Debug, PartialEq, Eq)]
+#[derive(Debug, Clone, Copy, PartialEq, Eq)]
 pub enum GroupFault {
     Piece(usize),
 }
 
 // What is wrong with a prefix length.
-#[derive(Clone, Copy, Debug, PartialEq, Eq)]
+#[derive(Debug, Clone, Copy, PartialEq, Eq)]
 pub enum PrefixFault {
     // not a number 0 to 128
     Length(usize),
@@ -18,7 +18,7 @@ pub enum PrefixFault {
 }
 
 // Why a text is no address or prefix; places are counted in bytes from 0.
-#[derive(Clone, Copy, Debug, PartialEq, Eq)]
+#[derive(Debug, Clone, Copy, PartialEq, Eq)]
 pub enum AddressFault {
     Group(GroupFault),
     // not eight groups, or over seven beside `::`
@@ -26,6 +26,7 @@ pub enum AddressFault {
     Prefix(PrefixFault),
 }
 
+// kept: a derived From has no contract
 impl From<GroupFault> for AddressFault {
     ghost from_gives = { λ e b. b ≡ AddressFault.Group e };
 
@@ -34,6 +35,7 @@ impl From<GroupFault> for AddressFault {
     }
 }
 
+// kept: a derived From has no contract
 impl From<PrefixFault> for AddressFault {
     ghost from_gives = { λ e b. b ≡ AddressFault.Prefix e };
 

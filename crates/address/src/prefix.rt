@@ -1,15 +1,13 @@
-ghost use Rattle.std.specs.Prelude.{◌≡◌, ◌≤◌, length, IfOk, if◌then◌else◌, Some, None, nat_lt};
-ghost use Rattle.text.specs.Split.{before};
+ghost use Rattle.std.specs.Prelude.{◌≡◌, ◌≤◌, Ok, Err, MatchResult};
 ghost use Rattle.address.specs.Address.{address};
-ghost use Rattle.address.specs.Prefix.{length_at, bits_past_of, unstray, sized_prefix, prefix, in_line};
-ghost use Rattle.address.specs.Grammar.{PrefixText, Accepts};
+ghost use Rattle.address.specs.Grammar.{Accepts};
 ghost use Rattle.address.specs.Refusals.{RefusedAt, Refuses};
 
 use crate::address::read_address;
 use crate::fault::{AddressFault, PrefixFault};
 use text::fields::Field;
 use text::numerals::read_decimal;
-use text::split::before_byte;
+use text::split::find_byte;
 
 // What stands between an address and its length.
 const SLASH: u8 = b'/';
@@ -18,79 +16,85 @@ const SLASH: u8 = b'/';
 const ADDRESS_BITS: u32 = 128;
 
 // An address, and how many of its first bits count; without a length all of them do.
-#[derive(Clone, Copy)]
+#[derive(Debug, Clone, Copy, PartialEq, Eq)]
 pub struct Prefix {
     pub address: u128,
     pub length: Option<u32>,
 }
 
-// The index of the first `/`.
-fn find_slash(text: &[u8]) -> Option<usize>
-    ensures { result ≡ (if nat_lt (before 47 text.now) (length text.now) then Some (before 47 text.now) else None) }
-{
-    let n = before_byte(text, SLASH);
-    if n < text.len() { Some(n) } else { None }
+// A prefix length.
+#[derive(Clone, Copy)]
+struct Length {
+    bits: u32,
+    ghost most: { bits ≤ 128 },
 }
 
-// The length that a text says, which begins at `place`.
-fn read_length(text: &[u8], place: usize) -> Result<u32, PrefixFault>
-    ensures value { result ≡ length_at place text.now }
-    ensures bound { IfOk result (λ n. n ≤ 128) }
-{
-    match read_decimal(text) {
-        Some(n) if n <= ADDRESS_BITS => Ok(n),
-        _ => Err(PrefixFault::Length(place)),
-    }
-}
+impl Length {
+    ghost use Rattle.address.specs.Prefix.{length_at, bits_past_of};
 
-// The bits of an address past its first `length`, as a number.
-fn bits_past(address: u128, length: u32) -> u128
-    requires { length ≤ 128 }
-    ensures { result ≡ bits_past_of length address }
-{
-    if length == 0 {
-        return address;
+    // The length that digits say.
+    fn read(digits: Field<'_>) -> Result<Length, PrefixFault>
+        ensures { MatchResult result (λ l. length_at digits.entry.place digits.entry.text.now ≡ Ok l.bits) (λ e. length_at digits.entry.place digits.entry.text.now ≡ Err e) }
+    {
+        match read_decimal(digits.text) {
+            Some(bits) if bits <= ADDRESS_BITS => Ok(Length { bits }),
+            _ => Err(PrefixFault::Length(digits.place)),
+        }
     }
-    address % (1 << (ADDRESS_BITS - length))
+
+    // The bits of an address past its first ones, which are as many, as a number.
+    fn bits_past(self, address: u128) -> u128
+        ensures { result ≡ bits_past_of self.bits address }
+    {
+        if self.bits == 0 {
+            return address;
+        }
+        address % (1 << (ADDRESS_BITS - self.bits))
+    }
 }
 
 impl Prefix {
+    ghost use Rattle.address.specs.Prefix.{length_at, unstray, sized_prefix, prefix, in_line};
+    ghost use Rattle.address.specs.Grammar.{PrefixText};
+
     // The prefix of an address and a length; no bit may be set past the length.
-    fn new(address: u128, length: u32) -> Result<Prefix, PrefixFault>
-        requires { length ≤ 128 }
-        ensures { result ≡ unstray address length }
+    fn new(address: u128, length: Length) -> Result<Prefix, PrefixFault>
+        ensures { result ≡ unstray address length.bits }
     {
-        if bits_past(address, length) != 0 {
+        if length.bits_past(address) != 0 {
             return Err(PrefixFault::Stray(0));
         }
         Ok(Prefix {
             address,
-            length: Some(length),
+            length: Some(length.bits),
         })
     }
 
-    // The prefix of an address text and a length text, which begins at `place`.
-    fn read_sized(text: &[u8], digits: &[u8], place: usize) -> Result<Prefix, AddressFault>
-        ensures { result ≡ sized_prefix (address text.now) (length_at place digits.now) }
+    // The prefix of an address text and the digits of a length.
+    fn read_sized(text: &[u8], digits: Field<'_>) -> Result<Prefix, AddressFault>
+        ensures { result ≡ sized_prefix (address text.now) (length_at digits.entry.place digits.entry.text.now) }
     {
         let address = read_address(text)?;
-        let length = read_length(digits, place)?;
-        let prefix = Prefix::new(address, length)?;
-        Ok(prefix)
+        let length = Length::read(digits)?;
+        Ok(Prefix::new(address, length)?)
     }
 
     // The prefix of a text: an address, and a length after its first `/`.
     fn read_text(text: &[u8]) -> Result<Prefix, AddressFault>
         ensures { result ≡ prefix text.now }
     {
-        let Some(slash) = find_slash(text) else {
+        let Some(slash) = find_byte(text, SLASH) else {
             let address = read_address(text)?;
             return Ok(Prefix {
                 address,
                 length: None,
             });
         };
-        Prefix::read_sized(&text[0..slash], &text[slash + 1..], slash + 1)
+        let digits = Field {
+            text: &text[slash + 1..],
+            place: slash + 1,
+        };
+        Prefix::read_sized(&text[..slash], digits)
     }
 
     // The prefix that a field says. It is accepted exactly if it is prefix text.
@@ -99,45 +103,36 @@ impl Prefix {
         ensures grammar { Accepts result (PrefixText field.entry.text.now) }
         ensures refusal { Refuses result (RefusedAt field.entry.place field.entry.text.now) }
     {
-        match Prefix::read_text(field.text) {
-            Ok(prefix) => Ok(prefix),
-            Err(fault) => Err(fault.moved(field.place)),
-        }
+        Prefix::read_text(field.text).map_err(|fault| fault.moved(field.place))
     }
 }
 
 #[cfg(test)]
 mod tests {
     use super::*;
-    use std::test::Fail;
 
     #[test]
-    fn a_length_is_read(rt: HostRuntime) -> Result<(), Fail> {
-        match Prefix::read(Field {
+    fn a_length_is_read(rt: HostRuntime) {
+        let field = Field {
             text: b"2001:0DB8:0:CD30::/60",
             place: 6,
-        }) {
-            Ok(prefix) => {
-                assert_eq!(rt; prefix.address, 0x20010db80000cd300000000000000000);
-                assert_eq!(rt; prefix.length, Some(60));
-                Ok(())
-            }
-            Err(_) => Err(Fail::new("refused")),
-        }
+        };
+        let prefix = Prefix {
+            address: 0x20010db80000cd300000000000000000,
+            length: Some(60),
+        };
+        assert_eq!(rt; Prefix::read(field), Ok(prefix));
     }
 
     #[test]
-    fn a_fault_has_its_place_in_the_line(rt: HostRuntime) -> Result<(), Fail> {
-        match Prefix::read(Field {
+    fn a_fault_has_its_place_in_the_line(rt: HostRuntime) {
+        let field = Field {
             text: b"2001:db8::/129",
             place: 6,
-        }) {
-            Ok(_) => Err(Fail::new("read")),
-            Err(fault) => {
-                assert_eq!(rt; fault.number(), 6);
-                assert_eq!(rt; fault.place(), 17);
-                Ok(())
-            }
-        }
+        };
+        assert_eq!(rt;
+            Prefix::read(field).map_err(|fault| (fault.number(), fault.place())),
+            Err((6, 17))
+        );
     }
 }

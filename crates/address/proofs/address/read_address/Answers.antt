@@ -1,14 +1,17 @@
-use Rattle.std.proofs.Common.{ap, ◌∙◌, rules}
-use Rattle.address.specs.Address.{numbered}
-use Rattle.address.proofs.Gather.{gap_address}
+use Rattle.std.proofs.Common.{arith}
+use Rattle.std.proofs.lemmas.Grind.{common_steps}
 use Rattle.address.proofs.Refusing.{refuses_address}
 use Rattle.address.proofs.Spelling.{accepts_spelling}
 use Rattle.address.proofs.address.read_address.Goals as goal
 
-pub returns-then-gap-text : goal.returns-then-gap-text
-returns-then-gap-text c =
-    let e = c.read_gapped.ensures ∙ ap numbered (gap_address _ c.args.text.now c.before_gap-gap.ensures.is c.if-gap-text.true) in
-    record { value = e; grammar = accepts_spelling c.args.text.now _ e; refusal = refuses_address c.args.text.now _ e }
+pub returns-in-Some-clause-grammar : goal.returns-in-Some-clause-grammar
+returns-in-Some-clause-grammar c = accepts_spelling c.args.text.now _ (grind (arith, common_steps))
 
-pub returns-else-gap-text : goal.returns-else-gap-text
-returns-else-gap-text c = record { value = search rules; grammar = accepts_spelling c.args.text.now _ (search rules); refusal = refuses_address c.args.text.now _ (search rules) }
+pub returns-in-Some-clause-refusal : goal.returns-in-Some-clause-refusal
+returns-in-Some-clause-refusal c = refuses_address c.args.text.now _ (grind (arith, common_steps))
+
+pub returns-in-None-clause-grammar : goal.returns-in-None-clause-grammar
+returns-in-None-clause-grammar c = accepts_spelling c.args.text.now _ (grind (arith, common_steps))
+
+pub returns-in-None-clause-refusal : goal.returns-in-None-clause-refusal
+returns-in-None-clause-refusal c = refuses_address c.args.text.now _ (grind (arith, common_steps))

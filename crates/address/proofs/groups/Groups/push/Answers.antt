@@ -1,5 +1,5 @@
 use Rattle.std.proofs.Common.{◌+◌, ◌*◌, ◌^◌, ◌<◌, arith}
-use Rattle.text.proofs.Numbers.{power_more, power_below}
+use Rattle.text.proofs.Numbers.{power_below}
 use Rattle.address.proofs.groups.Groups.push.Goals as goal
 use Rattle.address.proofs.groups.Groups.push.Goals.{Then-self-lt-GROUPS}
 
@@ -11,6 +11,3 @@ overflow_mul-self c = omega (arith, fits c)
 
 pub overflow_add-self : goal.overflow_add-self
 overflow_add-self c = omega (arith, fits c)
-
-pub invariant_of-self : goal.invariant_of-self
-invariant_of-self c = record { few = omega arith; fits = power_more 65536 _ _ _ c.args.self.now.fits (omega arith) }
