@@ -13,11 +13,11 @@ use Rattle.engine.proofs.Puts.{put_self, put_twice}
 use Rattle.kind.specs.declared.rule.Rule.{Rule}
 use Rattle.kind.specs.Rules.{judged}
 use Rattle.steps.specs.Meaning.{meaning}
+use Rattle.steps.proofs.Rows.{test_says}
 use Rattle.steps.proofs.Adding.{own, swept_back}
 use Rattle.search.specs.Steps.{places, pick_steps, hunt_steps, differ_steps, alike_steps, least_steps}
 use Rattle.search.specs.Least.{Below, Least}
 use Rattle.search.specs.Seeks.{Seeks, Finds, Void}
-use Rattle.search.proofs.Picks.{test_says}
 use Rattle.search.proofs.Seeking.{holding, Chosen, left, lowest, right_bit, as_least, hunt_regs, differ_regs, apart, apart_true, apart_false, true_apart, judged_local, hold_in, trail_ran, trail_regs, trail_chosen}
 
 pub hunt_ext : (p q : Bits) (k : ℕ) (rest : List Op) → ((v : ℕ) → 1 ≤ v → v ≤ k → p v ≡ q v) → hunt_steps places p k rest ≡ hunt_steps places q k rest

@@ -1,12 +1,12 @@
 -- The calls that fix one variable.
 use Rattle.std.proofs.Common.{◌≡◌, ℕ, zero, suc, ◌+◌, ◌-◌, ◌≤◌, Bool, true, false, cond, List, [], ◌∷◌, Ok, Err, Option, Result, sym, refl, ap, ◌∙◌, subst, arith, eq-eqb, ne_eqb}
 use Rattle.engine.specs.declared.fault.EngineFault.{EngineFault}
-use Rattle.engine.specs.declared.fault.EngineFault.TheVariants.{Register, Variable, Room}
 use Rattle.engine.specs.Ops.{Op, Bits, held, bit_at, put}
 use Rattle.engine.specs.Does.{Does, Rooms, View, Tests, Says}
 use Rattle.engine.specs.Rows.{Ran}
-use Rattle.engine.proofs.Rows.{row, next, retell, told_value, ran_regs}
+use Rattle.engine.proofs.Rows.{row, next, retell, ran_regs}
 use Rattle.steps.specs.Works.{Swept}
+use Rattle.steps.proofs.Rows.{test_says}
 use Rattle.search.specs.declared.places.Places.{Places}
 use Rattle.search.specs.Assigned.{Assigned}
 use Rattle.search.specs.Steps.{places, pick_steps, take_steps, differ_steps}
@@ -17,15 +17,6 @@ same_says true true P s t = refl
 same_says true false P s t = sym (t.1 (s.0 refl))
 same_says false true P s t = s.1 (t.0 refl)
 same_says false false P s t = refl
-
--- what an answered test says of the register
-pub test_says : {R : Rooms} {a : ℕ} {e e' : View R.Shape} {x : Bool} → Tests R a e e' (Ok x) → Says x ((s : Bits) → e.regs a s ≡ false)
-test_says {R = R} {a = a} {e = e} {x = x} t =
-    let k : t.yes_no ≡ x = sym (go _ t.does.told) in
-    subst (λ (y : Bool). Says y ((s : Bits) → e.regs a s ≡ false)) k t.says
-  where
-    go : (b : Bool) → ◌≡◌ {A = Result Bool EngineFault} (Ok x) (cond b (cond true (cond (R.full e.shape (Op.empty a)) (Err Room) (Ok t.yes_no)) (Err Variable)) (Err Register)) → x ≡ t.yes_no
-    go b h = told_value x t.yes_no b true (R.full e.shape (Op.empty a)) h
 
 -- what the test says of the differing frames
 void_says : {R : Rooms} (w : Places) {v : ℕ} {e e₁ e₂ : View R.Shape} {u : Unit {0}} {x : Bool} → Does R (Op.fix w.half w.differing v false) tt e e₁ (Ok u) → Tests R w.half e₁ e₂ (Ok x) → Says x (Void w e v)

@@ -37,12 +37,15 @@ pub const PLACES: Places = Places {
     half: 10,
 };
 
-// The frames in one register only: the register without them, the two that are met, and where they and the others go.
+// How the frames in one register only are made.
 #[derive(Clone, Copy)]
 struct Side {
+    // the register that is complemented
     without: u8,
+    // the two registers that are then met
     left: u8,
     right: u8,
+    // where these frames go, and where the others go
     frames: u8,
     others: u8,
 }

@@ -1,8 +1,8 @@
 -- The rows of an add, put together.
 use Rattle.std.proofs.Common.{◌≡◌, ℕ, zero, suc, ◌+◌, ◌-◌, ◌<◌, Bool, true, false, List, [], ◌∷◌, length, get_or, drop, Ok, Err, Result, sym, refl, ap, ◌∙◌, add-one, arith, drop-cons}
 use Rattle.engine.specs.declared.fault.EngineFault.{EngineFault}
-use Rattle.engine.specs.Ops.{Op, regs_in}
-use Rattle.engine.specs.Does.{Rooms, View, Tests}
+use Rattle.engine.specs.Ops.{Op, Bits, regs_in}
+use Rattle.engine.specs.Does.{Rooms, View, Says, Tests}
 use Rattle.engine.specs.Rows.{Ran}
 use Rattle.engine.proofs.Rows.{row, next, stop, retell, told_value}
 use Rattle.kind.specs.declared.rule.Rule.{Rule}
@@ -27,11 +27,15 @@ keep_block w m b r h p = record { goes = λ rest. rw h (p.goes rest) }
 pub keep_pass : {A : Type 0} {R : Rooms} {e e' : View R.Shape} {x : Result A EngineFault} (w : Scratch) (m b : ℕ) (r : Rule) → blocks r.action ≡ false → Ran R (λ rest. Op.clear w.fresh ∷ join_steps w w.matched m w.rule rest) e e' x → Ran R (keep_steps w m b r) e e' x
 keep_pass w m b r h p = record { goes = λ rest. rw h (p.goes rest) }
 
+-- what an answered test says of the register
+pub test_says : {R : Rooms} {a : ℕ} {e e' : View R.Shape} {x : Bool} → Tests R a e e' (Ok x) → Says x ((s : Bits) → e.regs a s ≡ false)
+test_says {R = R} {a = a} {e = e} {x = x} t = let k : t.yes_no ≡ x = sym (told_value x t.yes_no (regs_in (Op.empty a)) true (R.full e.shape (Op.empty a)) t.does.told) in rw k at t.says
+
 -- an add whose test is answered
 pub tested : {R : Rooms} {w : Scratch} {rule : Rule} {n : ℕ} {e mid at e' : View R.Shape} {x : Bool} {u v : Unit {0}} → Ran R (find_steps w 2 rule n) e mid (Ok u) → Tests R w.fresh mid at (Ok x) → Ran R (keep_steps w 2 1 rule) at e' (Ok v) → Works R w rule n e e' (Ok x)
-tested {R = R} {w = w} {mid = mid} {x = x} p t q = record {
+tested {mid = mid} {x = x} p t q = record {
   row = retell (next p (next (row t.does) q)) x;
-  idle = λ y h. (mid, p.goes [], let k : t.yes_no ≡ y = sym (told_value x t.yes_no (regs_in (Op.empty w.fresh)) true (R.full mid.shape (Op.empty w.fresh)) t.does.told) ∙ cc in rw k at t.says);
+  idle = λ y h. (mid, p.goes [], let k : x ≡ y = cc in rw k at (test_says t));
 }
 
 -- an add that is refused, before its test is answered or after it
