@@ -49,10 +49,6 @@ pub fn value(address: u128, port: Option<u16>) -> Assignment
 pub fn care(length: Option<u32>, port: Option<u16>) -> Assignment
     ensures { result ≡ care_bytes length port }
 {
-<<<<<<< HEAD
-    let address = length.map_or(u128::MAX, |k| first_bits(k));
-=======
     let address = length.map_or(u128::MAX, first_bits);
->>>>>>> ff3269c1bb7a5989b506a6d96aa4a9fe7e959b46
     frame(address, port.map_or(0, |_| u16::MAX))
 }

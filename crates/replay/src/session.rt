@@ -49,7 +49,13 @@ impl Session {
             return refuse(rt);
         };
         let answer = perform(filter, call);
-        println!(rt; "{}", Shown { answer, size: FlatKind.size() })
+        println!(rt;
+            "{}",
+            Shown {
+                answer,
+                size: FlatKind.size()
+            }
+        )
     }
 
     // A line that is given in hexadecimal is added.

@@ -1,3 +1,4 @@
+use engine::assignment::{Assignment, BYTES};
 use filter::answer::{Answer, Reply};
 use filter::fault::FilterFault;
 use kind::rule::Rule;
@@ -18,6 +19,11 @@ impl fmt::Display for Hex<'_> {
     }
 }
 
+// The frame of `size` bytes that a place begins with.
+fn frame(place: &Assignment, size: u8) -> Hex<'_> {
+    Hex(&place[..usize::from(size).min(BYTES)])
+}
+
 // A refusal, by its number and place.
 #[derive(Clone, Copy)]
 pub struct Refusal(pub FilterFault);
@@ -35,7 +41,13 @@ pub struct Bits(pub Rule);
 impl fmt::Display for Bits {
     fn fmt<W: fmt::Write>(&self, f: &mut fmt::Formatter<W>) -> fmt::Result {
         let rule = self.0;
-        write!(f, "{} {} {}", rule.action, Hex(&rule.value), Hex(&rule.care))
+        write!(
+            f,
+            "{} {} {}",
+            rule.action,
+            Hex(&rule.value),
+            Hex(&rule.care)
+        )
     }
 }
 
@@ -57,10 +69,7 @@ impl fmt::Display for Shown {
             Ok(Reply::Verdict(action)) => write!(f, "{action}"),
             Ok(Reply::Withdrawn) => f.write_str("withdrawn"),
             Ok(Reply::Alike) => f.write_str("alike"),
-            Ok(Reply::Differs(place)) => {
-                let size = usize::from(self.size).min(place.len());
-                write!(f, "differs {}", Hex(&place[..size]))
-            }
+            Ok(Reply::Differs(place)) => write!(f, "differs {}", frame(&place, self.size)),
             Err(fault) => write!(f, "{}", Refusal(fault)),
         }
     }
