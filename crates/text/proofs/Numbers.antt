@@ -63,7 +63,7 @@ module _ (digit : ℕ → Option ℕ) (base : ℕ) (some : 0 < base) (below : (c
     where
       go : (o : Option ℕ) → digit c ≡ o → ((d : ℕ) → digit c ≡ Some d → number_after digit base (a * base + d) cs ≡ Some v → v < base ^ n) → elim o [ Some d ↦ number_after digit base (a * base + d) cs | None ↦ None ] ≡ Some v → v < base ^ n
       go (Some d) f k e = k d f e
-      go None f k e = absurd (let z : ◌≡◌ {A = ℕ} 0 1 = cc in omega arith)
+      go None f k e = cc
 
   -- a text of 1 to n digits, where the machine holds each number of n digits
   pub sized_is : (n : ℕ) (t : List ℕ) (r : Option ℕ) → base ^ n < 2 ^ 64 → 0 < length t → length t ≤ n → r ≡ capped_after digit base 0 t → (r ≡ number_of digit base n t) × IfSome r (λ v. v < base ^ n)

@@ -1,14 +1,15 @@
 -- Numbers are read exactly as the relations say.
-use Rattle.std.proofs.Common.{◌≡◌, ℕ, ◌+◌, ◌-◌, ◌*◌, ◌≤◌, Bool, true, false, cond, ◌&&◌, ltb, leb, ◌⊎◌, List, [], ◌∷◌, length, get_or, Some, None, Option, sym, refl, ap, ◌∙◌, subst, inl, inr, arith}
+use Rattle.std.proofs.Common.{◌≡◌, ℕ, ◌+◌, ◌-◌, ◌*◌, ◌≤◌, Bool, true, false, cond, ltb, leb, ◌⊎◌, List, [], ◌∷◌, length, get_or, Some, None, Option, sym, refl, ap, ◌∙◌, subst, inl, inr, arith}
 use Rattle.std.specs.Int.Digits.{number_from_digits_after}
-use Rattle.std.proofs.lemmas.Bool.{and_parts, leb-true, ltb-true, lt-leb, le-leb, lt-ltb, eq-eqb, ne_eqb}
+use Rattle.std.proofs.lemmas.Bool.Decides.{nat_tests}
+use Rattle.std.proofs.lemmas.Bool.{cases_lt, and_parts, leb-true, ltb-true, le-leb, lt-ltb, eq-eqb, ne_eqb}
 use Rattle.text.specs.Hexadecimal.{hex_digit}
 use Rattle.text.specs.Numerals.{dec_digit_of, number_after, sized, number_of, group, padded, decimal}
 use Rattle.text.specs.Written.{DecDigit, HexDigit, figure, small, capital, Digits, none, more, Writes, Group, Decimal, Reads}
 
 -- no number where there is none
 pub nothing : {v : ℕ} {P : Type 0} → None ≡ Some v → P
-nothing e = absurd (let z : ◌≡◌ {A = ℕ} 0 1 = cc in omega arith)
+nothing e = cc
 
 -- what a digit is and how it is read
 record Digital (digit : ℕ → Option ℕ) (Digit : ℕ → ℕ → Type 0) : Type 0 where
@@ -19,20 +20,10 @@ dec_to : (c d : ℕ) → DecDigit c d → dec_digit_of c ≡ Some d
 dec_to c d h =
     let e = h.code in
     let l = h.below in
-    let z : c - 48 ≡ d = omega arith in
-    rw (le-leb 48 c (omega arith), le-leb c 57 (omega arith), z) refl
+    grind (arith, nat_tests)
 
 dec_from : (c d : ℕ) → dec_digit_of c ≡ Some d → DecDigit c d
-dec_from c d e = go (leb 48 c && leb c 57) refl e
-  where
-    go : (b : Bool) → (leb 48 c && leb c 57) ≡ b → cond b (Some (c - 48)) None ≡ Some d → DecDigit c d
-    go true h e =
-        let p = and_parts (leb 48 c) (leb c 57) h in
-        let l = leb-true 48 c p.0 in
-        let m = leb-true c 57 p.1 in
-        let z : c - 48 ≡ d = cc in
-        record { code = omega arith; below = omega arith }
-    go false h e = nothing e
+dec_from c d e = record { code = grind (arith, nat_tests); below = grind (arith, nat_tests) }
 
 decimally : Digital dec_digit_of DecDigit
 decimally = record { to = dec_to; from = dec_from }
@@ -41,46 +32,18 @@ pub hex_to : (c d : ℕ) → HexDigit c d → hex_digit c ≡ Some d
 hex_to _ _ (figure c d h) =
     let e = h.code in
     let l = h.below in
-    let z : c - 48 ≡ d = omega arith in
-    rw (le-leb 48 c (omega arith), le-leb c 57 (omega arith), z) refl
-hex_to _ _ (small c d e h) =
-    let z : c - 97 + 10 ≡ 10 + d = omega arith in
-    rw (le-leb 48 c (omega arith), lt-leb c 57 (omega arith), le-leb 97 c (omega arith), le-leb c 102 (omega arith), z) refl
-hex_to _ _ (capital c d e h) =
-    let z : c - 65 + 10 ≡ 10 + d = omega arith in
-    rw (le-leb 48 c (omega arith), lt-leb c 57 (omega arith), lt-leb 97 c (omega arith), le-leb 65 c (omega arith), le-leb c 70 (omega arith), z) refl
+    grind (arith, nat_tests)
+hex_to _ _ (small c d e h) = grind (arith, nat_tests)
+hex_to _ _ (capital c d e h) = grind (arith, nat_tests)
 
 hex_from : (c v : ℕ) → hex_digit c ≡ Some v → HexDigit c v
-hex_from c v e = one (leb 48 c && leb c 57) refl e
-  where
-    three : (b : Bool) → (leb 65 c && leb c 70) ≡ b → cond b (Some (c - 65 + 10)) None ≡ Some v → HexDigit c v
-    three true h e =
-        let p = and_parts (leb 65 c) (leb c 70) h in
-        let l = leb-true 65 c p.0 in
-        let m = leb-true c 70 p.1 in
-        let z : c - 65 + 10 ≡ v = cc in
-        let y : 10 + (c - 65) ≡ v = omega arith in
-        subst (HexDigit c) y (capital c (c - 65) (omega arith) (omega arith))
-    three false h e = nothing e
-
-    two : (b : Bool) → (leb 97 c && leb c 102) ≡ b → cond b (Some (c - 97 + 10)) (cond (leb 65 c && leb c 70) (Some (c - 65 + 10)) None) ≡ Some v → HexDigit c v
-    two true h e =
-        let p = and_parts (leb 97 c) (leb c 102) h in
-        let l = leb-true 97 c p.0 in
-        let m = leb-true c 102 p.1 in
-        let z : c - 97 + 10 ≡ v = cc in
-        let y : 10 + (c - 97) ≡ v = omega arith in
-        subst (HexDigit c) y (small c (c - 97) (omega arith) (omega arith))
-    two false h e = three (leb 65 c && leb c 70) refl e
-
-    one : (b : Bool) → (leb 48 c && leb c 57) ≡ b → cond b (Some (c - 48)) (cond (leb 97 c && leb c 102) (Some (c - 97 + 10)) (cond (leb 65 c && leb c 70) (Some (c - 65 + 10)) None)) ≡ Some v → HexDigit c v
-    one true h e =
-        let p = and_parts (leb 48 c) (leb c 57) h in
-        let l = leb-true 48 c p.0 in
-        let m = leb-true c 57 p.1 in
-        let z : c - 48 ≡ v = cc in
-        figure c v (record { code = omega arith; below = omega arith })
-    one false h e = two (leb 97 c && leb c 102) refl e
+hex_from c v e = elim (cases_lt c 58) [
+  | inl l ↦ figure c v (record { code = grind (arith, nat_tests); below = grind (arith, nat_tests) })
+  | inr l ↦ elim (cases_lt c 97) [
+    | inl m ↦ let y : 10 + (c - 65) ≡ v = grind (arith, nat_tests) in subst (HexDigit c) y (capital c (c - 65) (grind (arith, nat_tests)) (grind (arith, nat_tests)))
+    | inr m ↦ let y : 10 + (c - 97) ≡ v = grind (arith, nat_tests) in subst (HexDigit c) y (small c (c - 97) (grind (arith, nat_tests)) (grind (arith, nat_tests)))
+  ]
+]
 
 hexadecimally : Digital hex_digit HexDigit
 hexadecimally = record { to = hex_to; from = hex_from }
@@ -138,7 +101,7 @@ plain_to (c ∷ d ∷ cs) (inr n) = ne_eqb c 48 n
 plain_from : (t : List ℕ) → 1 ≤ length t → padded t ≡ false → (length t ≡ 1) ⊎ (get_or t 0 0 ≡ 48 → ⊥)
 plain_from [] l e = absurd (omega arith)
 plain_from (c ∷ []) l e = inl refl
-plain_from (c ∷ d ∷ cs) l e = inr (λ h. let z : false ≡ true = sym e ∙ eq-eqb c 48 h in absurd (let y : ◌≡◌ {A = ℕ} 0 1 = cc in omega arith))
+plain_from (c ∷ d ∷ cs) l e = inr (λ h. let z : false ≡ true = sym e ∙ eq-eqb c 48 h in cc)
 
 pub decimal_to : {t : List ℕ} {v : ℕ} → Decimal t v → decimal t ≡ Some v
 decimal_to {t} {v} g = rw (plain_to t g.plain) (number_to dec_digit_of DecDigit 10 decimally 5 t v g.writes)

@@ -9,8 +9,10 @@ use crate::hex;
 
 // The digits of a base.
 pub trait Digits {
+    // how many digits there are
     ghost BASE: { ℕ };
 
+    // the value of a byte that is a digit
     ghost value: { ℕ → Option ℕ };
 
     const BASE: usize;
