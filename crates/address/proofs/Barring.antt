@@ -1,5 +1,5 @@
 -- Prefix text is refused exactly as the relation says.
-use Rattle.std.proofs.Common.{◌≡◌, ℕ, ◌+◌, ◌<◌, ◌≤◌, Bool, true, false, cond, eqb, leb, ◌⊎◌, List, length, Some, None, Ok, Err, Option, Result, sym, refl, ap, ◌∙◌, subst, inl, inr, arith}
+use Rattle.std.proofs.Common.{◌≡◌, ℕ, ◌+◌, ◌<◌, ◌≤◌, Bool, true, false, cond, eqb, leb, ◌⊎◌, List, length, Some, None, Ok, Err, Option, Result, sym, refl, ap, ◌∙◌, subst, inl, inr}
 use Rattle.std.proofs.lemmas.List.{take_all}
 use Rattle.std.proofs.lemmas.Bool.{cases_lt, lt-ltb, le-ltb, eq-eqb, ne_eqb, leb-true}
 use Rattle.text.specs.Numerals.{decimal}
@@ -60,7 +60,7 @@ sized_from t f (Ok a) (Ok k) h g l e = go (eqb (bits_past_of k a) 0) refl e
     go true z e = refused (sym e)
     go false z e =
         let n = length_from (before 47 t + 1) (length_text t) k g in
-        subst (PrefixRefused t) (same_err e) (stray a k (spelling_from (address_text t) a h) l n.0 n.1 (λ y. let w : true ≡ false = sym (eq-eqb (bits_past_of k a) 0 y) ∙ z in let x : ◌≡◌ {A = ℕ} 0 1 = cc in omega arith))
+        subst (PrefixRefused t) (same_err e) (stray a k (spelling_from (address_text t) a h) l n.0 n.1 (λ y. let w : true ≡ false = sym (eq-eqb (bits_past_of k a) 0 y) ∙ z in cc))
 
 barred_from : (t : List ℕ) (f : AddressFault) → prefix t ≡ Err f → PrefixRefused t f
 barred_from t f e = go (cases_lt (before 47 t) (length t))

@@ -21,7 +21,7 @@ same_some : {T : Type 0} {x y : T} → Some x ≡ Some y → x ≡ y
 same_some h = cc
 
 no_value : {T P : Type 0} {x : T} → None ≡ Some x → P
-no_value e = absurd (let z : ◌≡◌ {A = ℕ} 0 1 = cc in omega arith)
+no_value e = absurd (cc)
 
 same_place : {p q : ℕ} → Piece p ≡ Piece q → p ≡ q
 same_place h = cc
@@ -86,8 +86,8 @@ right true n = leb n 7
 right false n = eqb n 8
 
 right_from : (b : Bool) (n : ℕ) → right b n ≡ false → Miscounted b n
-right_from true n e = elim (dec_lt 7 n) [ yes p ↦ p | no p ↦ absurd (let t : true ≡ false = sym (le-leb n 7 (omega arith)) ∙ e in let z : ◌≡◌ {A = ℕ} 0 1 = cc in omega arith) ]
-right_from false n e = λ h. let t : true ≡ false = sym (eq-eqb n 8 h) ∙ e in let z : ◌≡◌ {A = ℕ} 0 1 = cc in omega arith
+right_from true n e = elim (dec_lt 7 n) [ yes p ↦ p | no p ↦ absurd (let t : true ≡ false = sym (le-leb n 7 (omega arith)) ∙ e in cc) ]
+right_from false n e = λ h. let t : true ≡ false = sym (eq-eqb n 8 h) ∙ e in cc
 
 right_to : (b : Bool) (n : ℕ) → Miscounted b n → right b n ≡ false
 right_to true n h = lt-leb n 7 h

@@ -85,7 +85,7 @@ port_from a b y k None f m l h = tt
 port_from a b y k (Some p) f m l h = low_from a b y k (Some p) f m l h refl
 
 pub port_to : (q : Option ℕ) (y : ℕ) → PortIs q y → is_given q ≡ true → y ≡ given q
-port_to None y h e = let z : ◌≡◌ {A = ℕ} 0 1 = cc in absurd (omega arith)
+port_to None y h e = absurd (cc)
 port_to (Some p) y h e = h
 
 -- the address keeps no bit past the length
@@ -98,13 +98,13 @@ value_clear a k q f m z i l h c = ⊎_elim (λ w. ports w) (λ w. addresses w) (
   where
     none_given : (q : Option ℕ) → is_given q ≡ false → given q ≡ 0
     none_given None e = refl
-    none_given (Some p) e = let x : ◌≡◌ {A = ℕ} 0 1 = cc in absurd (omega arith)
+    none_given (Some p) e = absurd (cc)
 
     ports : 128 < i → bit_at (value_bytes a q) i ≡ false
     ports w = value_lower a 0 0 k q f m (omega arith) i w h ∙ ap (λ x. bit_of 16 x (i - 128)) (none_given q (sym (port_counts k q i w h) ∙ c)) ∙ no_bit (i - 128)
 
     past : leb i (counting k) ≡ false → counting k < i
-    past e = ⊎_elim (λ w. w) (λ w. absurd (let t : true ≡ false = sym (le-leb i (counting k) w) ∙ e in let x : ◌≡◌ {A = ℕ} 0 1 = cc in omega arith)) (cases_lt (counting k) i)
+    past e = ⊎_elim (λ w. w) (λ w. absurd (let t : true ≡ false = sym (le-leb i (counting k) w) ∙ e in cc)) (cases_lt (counting k) i)
 
     addresses : i ≤ 128 → bit_at (value_bytes a q) i ≡ false
     addresses w = value_upper a 0 0 k q f m (omega arith) i l w ∙ ap (λ x. eqb x 1) (kept_bit 128 a (counting k) i z (past (sym (address_care k q i m l w) ∙ c)) w)

@@ -136,12 +136,12 @@ module _ (n : ℕ) (x : ℤ) (a b c : Diagram) (x' : ℤ) (a' b' c' : Diagram) (
   -- no case applies
   nodes_none : (e p o l : Bool) → eqℤ x x' ≡ e → lt_z x (pos 0) ≡ p → eqℤ x' (neg_ℤ x) ≡ o → ltb (nat_abs x) (nat_abs x') ≡ l → cases e p o l ≡ None → Unmatched x x'
   unfolding cases
-  nodes_none true false o l he hp ho hl h = absurd (let z : ◌≡◌ {A = ℕ} 0 1 = cc in omega arith)
-  nodes_none true true o l he hp ho hl h = absurd (let z : ◌≡◌ {A = ℕ} 0 1 = cc in omega arith)
-  nodes_none false false true l he hp ho hl h = absurd (let z : ◌≡◌ {A = ℕ} 0 1 = cc in omega arith)
-  nodes_none false false false true he hp ho hl h = absurd (let z : ◌≡◌ {A = ℕ} 0 1 = cc in omega arith)
+  nodes_none true false o l he hp ho hl h = absurd (cc)
+  nodes_none true true o l he hp ho hl h = absurd (cc)
+  nodes_none false false true l he hp ho hl h = absurd (cc)
+  nodes_none false false false true he hp ho hl h = absurd (cc)
   nodes_none false false false false he hp ho hl h = record { differ = he; not_under = hl; not_opposite = λ _. ho }
-  nodes_none false true o true he hp ho hl h = absurd (let z : ◌≡◌ {A = ℕ} 0 1 = cc in omega arith)
+  nodes_none false true o true he hp ho hl h = absurd (cc)
   nodes_none false true o false he hp ho hl h = record { differ = he; not_under = hl; not_opposite = λ p. absurd (both_ways (lt_z x (pos 0)) p hp) }
 
   table_none : table n (node x a b c) (node x' a' b' c') ≡ None → Unmatched x x'
@@ -170,10 +170,10 @@ never x x' z z' u u' = go (unmatched x x' z u) (unmatched x' x z' u')
     go (inr p) (inr p') = both_ways (lt_z x (pos 0)) p'.1.1 p.1.0
 
 one_applies : (n : ℕ) (s t : Diagram) → Ordered n s → Ordered n t → table n s t ≡ None → table n t s ≡ None → ⊥
-one_applies n s top os ot h k = let z : ◌≡◌ {A = ℕ} 0 1 = cc in omega arith
-one_applies n s bottom os ot h k = let z : ◌≡◌ {A = ℕ} 0 1 = cc in omega arith
-one_applies n top (node x' a' b' c') os ot h k = let z : ◌≡◌ {A = ℕ} 0 1 = cc in omega arith
-one_applies n bottom (node x' a' b' c') os ot h k = let z : ◌≡◌ {A = ℕ} 0 1 = cc in omega arith
+one_applies n s top os ot h k = cc
+one_applies n s bottom os ot h k = cc
+one_applies n top (node x' a' b' c') os ot h k = cc
+one_applies n bottom (node x' a' b' c') os ot h k = cc
 one_applies n (node x a b c) (node x' a' b' c') os ot h k =
     never x x' (rising n x a b c os).first (rising n x' a' b' c' ot).first (table_none n x a b c x' a' b' c' os ot h) (table_none n x' a' b' c' x a b c ot os k)
 

@@ -1,15 +1,12 @@
 -- Meanings given to registers.
-use Rattle.std.proofs.Common.{◌≡◌, ℕ, Bool, true, false, cond, eqb, ◌⊎◌, refl, ap, inl, inr, eq-eqb, eqb-true}
+use Rattle.std.proofs.Common.{◌≡◌, ℕ, Bool, true, false, cond, eqb, ◌⊎◌, refl, ap, inl, inr, eq-eqb}
+use Rattle.std.proofs.lemmas.Bool.{cases_eq, ne_eqb}
 use mathlib.Core.Path.{fun_ext}
 use Rattle.engine.specs.Ops.{Regs, Bits, put}
 
 -- two numbers are equal, or the test says that they are not
 pub by_eq : (w v : ℕ) → (w ≡ v) ⊎ (eqb w v ≡ false)
-by_eq w v = go (eqb w v) refl
-  where
-    go : (b : Bool) → eqb w v ≡ b → (w ≡ v) ⊎ (eqb w v ≡ false)
-    go true h = inl (eqb-true w v h)
-    go false h = inr h
+by_eq w v = elim (cases_eq w v) [ inl e ↦ inl e | inr n ↦ inr (ne_eqb w v n) ]
 
 pub put_self : (m : Regs) (d : ℕ) → m ≡ put m d (m d)
 put_self m d = fun_ext λ r. elim (by_eq r d) as (λ _. m r ≡ put m d (m d) r) [ inl e ↦ rw (eq-eqb r d e) (ap m e) | inr n ↦ rw n refl ]

@@ -1,5 +1,5 @@
 -- Laws of rows of engine calls.
-use Rattle.std.proofs.Common.{◌≡◌, ℕ, Bool, true, false, cond, ◌&&◌, List, [], ◌∷◌, Ok, Err, Result, sym, refl, ap, ◌∙◌, arith}
+use Rattle.std.proofs.Common.{◌≡◌, Bool, true, false, cond, ◌&&◌, List, [], ◌∷◌, Ok, Err, Result, sym, refl, ap, ◌∙◌}
 use Rattle.engine.specs.declared.fault.EngineFault.{EngineFault}
 use Rattle.engine.specs.declared.fault.EngineFault.TheVariants.{Register, Variable, Room}
 use Rattle.engine.specs.Ops.{Op, may_lack, regs_in, var_in, after, Regs}
@@ -31,14 +31,14 @@ retell p y = record { goes = λ rest. p.goes rest }
 
 -- an answered call gives the value that it should
 pub told_value : {A : Type 0} (x z : A) (a b c : Bool) → ◌≡◌ {A = Result A EngineFault} (Ok x) (cond a (cond b (cond c (Err Room) (Ok z)) (Err Variable)) (Err Register)) → x ≡ z
-told_value x z true true true e = let q : ◌≡◌ {A = ℕ} 0 1 = cc in absurd (omega arith)
+told_value x z true true true e = absurd (cc)
 told_value x z true true false e = cc
-told_value x z true false c e = let q : ◌≡◌ {A = ℕ} 0 1 = cc in absurd (omega arith)
-told_value x z false b c e = let q : ◌≡◌ {A = ℕ} 0 1 = cc in absurd (omega arith)
+told_value x z true false c e = absurd (cc)
+told_value x z false b c e = absurd (cc)
 
 -- no row ends both ways
 pub clash : {V : Type 0} {x y : V} {f : EngineFault} → ◌≡◌ {A = V × Result (Unit {0}) EngineFault} (x, Err f) (y, Ok tt) → ⊥
-clash {f = f} e = let p : ◌≡◌ {A = Result (Unit {0}) EngineFault} (Err f) (Ok tt) = ap (λ (t : _ × Result (Unit {0}) EngineFault). t.1) e in let z : ◌≡◌ {A = ℕ} 0 1 = cc in omega arith
+clash e = cc (ap (λ (t : _ × Result (Unit {0}) EngineFault). t.1) e)
 
 -- the registers after calls that are all answered
 abbrev pub regs_after : List Op → Regs → Regs

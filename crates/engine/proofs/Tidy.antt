@@ -1,5 +1,6 @@
 -- Rows that write only registers of their own.
-use Rattle.std.proofs.Common.{◌≡◌, ℕ, Bool, true, false, cond, ◌&&◌, List, [], ◌∷◌, Ok, Err, Result, sym, refl, ap, ◌∙◌, subst, arith, ne_eqb}
+use Rattle.std.proofs.Common.{◌≡◌, ℕ, Bool, true, false, cond, ◌&&◌, List, [], ◌∷◌, Ok, Err, Result, sym, refl, ap, ◌∙◌, subst, ne_eqb}
+use Rattle.std.proofs.lemmas.Bool.{and_parts}
 use Rattle.engine.specs.declared.fault.EngineFault.{EngineFault}
 use Rattle.engine.specs.declared.fault.EngineFault.TheVariants.{Register, Variable, Room}
 use Rattle.engine.specs.Ops.{Op, Regs, Bits, put, after, may_lack, regs_in, var_in}
@@ -32,16 +33,14 @@ Fit (Ok x) = Unit {0}
 Fit (Err f) = f ≡ Room
 
 pub and_l : (a b : Bool) → (a && b) ≡ true → a ≡ true
-and_l true b h = refl
-and_l false b h = h
+and_l a b h = (and_parts a b h).0
 
 pub and_r : (a b : Bool) → (a && b) ≡ true → b ≡ true
-and_r true b h = h
-and_r false b h = let z : ◌≡◌ {A = ℕ} 0 1 = cc in absurd (omega arith)
+and_r a b h = (and_parts a b h).1
 
 module _ (own : ℕ → Bool) where
   miss : (m : Regs) (d : ℕ) (f : Bits → Bool) (x : ℕ) → own d ≡ true → own x ≡ false → put m d f x ≡ m x
-  miss m d f x h o = rw (ne_eqb x d (λ e. let z : true ≡ false = sym h ∙ ap own (sym e) ∙ o in let q : ◌≡◌ {A = ℕ} 0 1 = cc in omega arith)) refl
+  miss m d f x h o = rw (ne_eqb x d (λ e. let z : true ≡ false = sym h ∙ ap own (sym e) ∙ o in cc)) refl
 
   stays : (op : Op) (m : Regs) (x : ℕ) → inner own op ≡ true → own x ≡ false → after op m x ≡ m x
   stays (Op.clear d) m x h o = miss m d _ x h o
@@ -83,5 +82,5 @@ ran_tidy own R e e' (op ∷ ops) r h t = go (λ k w. ran_tidy own R (moved R op 
     go : (ran R (moved R op e) ops ≡ (e', r) → tidy_all own e.vars ops ≡ true → Fit r × (e'.vars ≡ e.vars) × ((x : ℕ) → own x ≡ false → e'.regs x ≡ after op e.regs x)) → (a b c : Bool) → a ≡ true → b ≡ true → follow {A = Unit {0}} (cond a (cond b (cond c (Err Room) (Ok tt)) (Err Variable)) (Err Register)) e (ran R (moved R op e) ops) ≡ (e', r) → Fit r × (e'.vars ≡ e.vars) × ((x : ℕ) → own x ≡ false → e'.regs x ≡ e.regs x)
     go l true true true p q k = ended Room refl k
     go l true true false p q k = let i = l k theirs in (i.0, i.1, λ x o. i.2 x o ∙ stays own op e.regs x ins o)
-    go l true false c p q k = let z : ◌≡◌ {A = ℕ} 0 1 = cc in absurd (omega arith)
-    go l false b c p q k = let z : ◌≡◌ {A = ℕ} 0 1 = cc in absurd (omega arith)
+    go l true false c p q k = absurd (cc)
+    go l false b c p q k = absurd (cc)

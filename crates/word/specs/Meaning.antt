@@ -133,8 +133,8 @@ held_high x w m t b column et eb = fun_ext λ s.
     go : (s : Bits) (p q : Bool) (y : ℕ) → q ≡ true → y + cond p (2 ^ (x.n - x.v)) 0 ≡ spelt x.n s + cond q (2 ^ (x.n - x.v)) 0 → cond p (means x.n w s) (means x.n (w / 2 ^ t) s) ≡ bit w y
     go s true true y e h = let z : spelt x.n s ≡ y = omega arith in ap (λ (i : ℕ). bit w i) z
     go s false true y e h = let z : spelt x.n s + t ≡ y = omega arith in shr_bit w t (spelt x.n s) ∙ ap (λ (i : ℕ). bit w i) z
-    go s true false y e h = let z : ◌≡◌ {A = ℕ} 0 1 = cc in absurd (omega arith)
-    go s false false y e h = let z : ◌≡◌ {A = ℕ} 0 1 = cc in absurd (omega arith)
+    go s true false y e h = absurd (cc)
+    go s false false y e h = absurd (cc)
 
 -- a word with the variable v held at 0: where v is 1 the bit that lies t lower
 pub held_low : (x : Variable) (w m t : ℕ) (b : Bool) → means x.n m ≡ (λ s. s x.v) → t ≡ 2 ^ (x.n - x.v) → b ≡ false → means x.n (bit_xor w (bit_and (bit_xor ((w * 2 ^ t) % 2 ^ 64) w) m)) ≡ (λ s. means x.n w (held s x.v b))
@@ -146,5 +146,5 @@ held_low x w m t b column et eb = fun_ext λ s.
     go : (s : Bits) (p q : Bool) (y : ℕ) → q ≡ false → y + cond p (2 ^ (x.n - x.v)) 0 ≡ spelt x.n s + cond q (2 ^ (x.n - x.v)) 0 → spelt x.n s < 64 → cond p (means x.n ((w * 2 ^ t) % 2 ^ 64) s) (means x.n w s) ≡ bit w y
     go s true false y e h l = let z : spelt x.n s ≡ y + t = omega arith in ap (λ (i : ℕ). bit ((w * 2 ^ t) % 2 ^ 64) i) z ∙ shl_bit w t y 64 (omega arith)
     go s false false y e h l = let z : spelt x.n s ≡ y = omega arith in ap (λ (i : ℕ). bit w i) z
-    go s true true y e h l = let z : ◌≡◌ {A = ℕ} 0 1 = cc in absurd (omega arith)
-    go s false true y e h l = let z : ◌≡◌ {A = ℕ} 0 1 = cc in absurd (omega arith)
+    go s true true y e h l = absurd (cc)
+    go s false true y e h l = absurd (cc)

@@ -36,19 +36,19 @@ impl Variable {
         1 << (self.n - self.v)
     }
 
-    // The word w with this variable held.
-    pub(crate) fn fixed(self, w: u64, high: bool) -> u64
-        ensures { means self.n result ≡ (λ s. means self.n w (held s self.v high)) }
+    // A word with this variable held.
+    pub(crate) fn fixed(self, word: u64, high: bool) -> u64
+        ensures { means self.n result ≡ (λ s. means self.n word (held s self.v high)) }
     {
-        let m = self.column();
-        let t = self.step();
-        // where v has this value the bit of w, elsewhere the bit t away
+        let column = self.column();
+        let step = self.step();
+        // where the variable has this value the bit of the word, elsewhere the bit that far away
         if high {
-            let other = w >> t;
-            other ^ ((w ^ other) & m)
+            let other = word >> step;
+            other ^ ((word ^ other) & column)
         } else {
-            let other = w << t;
-            w ^ ((other ^ w) & m)
+            let other = word << step;
+            word ^ ((other ^ word) & column)
         }
     }
 }

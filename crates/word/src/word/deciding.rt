@@ -16,9 +16,9 @@ impl DecidingEngine for WordEngine {
         let d = Register::try_from(d)?;
         let a = Register::try_from(a)?;
         let variable = self.variable(v)?;
-        let w = self.word_in(a);
-        let low = variable.fixed(w, false);
-        let high = variable.fixed(w, true);
+        let word = self.word_in(a);
+        let low = variable.fixed(word, false);
+        let high = variable.fixed(word, true);
         self.put(d, low & high);
         Ok(())
     }

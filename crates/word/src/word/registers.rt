@@ -33,11 +33,11 @@ impl WordEngine {
         self.words[a.index()]
     }
 
-    // Register d becomes w, of which only the bits below 2^n are kept.
-    pub(super) fn put(&mut self, d: Register, w: u64)
-        ensures { word_view self.new.n self.new.words ≡ written (word_view self.old.n self.old.words) d.number w }
+    // Register d becomes a word, of which only the bits below 2^n are kept.
+    pub(super) fn put(&mut self, d: Register, word: u64)
+        ensures { word_view self.new.n self.new.words ≡ written (word_view self.old.n self.old.words) d.number word }
     {
-        self.words[d.index()] = w & self.full();
+        self.words[d.index()] = word & self.full();
     }
 
     // The word that is true under every assignment.
