@@ -27,7 +27,10 @@ const PASSES: Told = Ok(Reply::Verdict(Action::Pass));
 
 // A rule of this number that decides some frame.
 fn acts(number: usize) -> Told {
-    Ok(Reply::Added(Added { number, idle: false }))
+    Ok(Reply::Added(Added {
+        number,
+        idle: false,
+    }))
 }
 
 // A rule of this number that decides none.
