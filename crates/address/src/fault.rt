@@ -45,6 +45,7 @@ impl From<PrefixFault> for AddressFault {
 }
 
 impl AddressFault {
+    // kept: `number` and `place` name which fact of a fault they give; a From<..> for u8 would not
     // The fault's number.
     pub fn number(self) -> u8
         ensures { result ≡ address_number self }
@@ -69,6 +70,7 @@ impl AddressFault {
         }
     }
 
+    // kept: no conversion, but the same fault at another place
     // The fault of a text that begins at `start` of a line, with its place in the line.
     pub fn moved(self, start: usize) -> AddressFault
         ensures { result ≡ moved start self }

@@ -12,6 +12,7 @@ const COLON: u8 = b':';
 // The number of groups of an address.
 pub(crate) const GROUPS: usize = 8;
 
+// kept: no buffer with a length, but the number that is written and how many groups write it
 // The groups that have been read: how many, up to 9, and the number that they write.
 #[derive(Clone, Copy)]
 pub(crate) struct Groups {

@@ -16,6 +16,7 @@ pub enum Rule {
     Ten,
 }
 
+// kept: a truth value for each thing that a rule asks, as in `pick`; a type of parts would allow fewer of them
 // What the rules ask of a quadruple (x, a, b, c): which parts are τ or −τ, which are equal, and whether x is negative.
 #[derive(Debug, Clone, Copy, PartialEq, Eq)]
 pub struct Seen {

@@ -13,6 +13,7 @@ pub enum EngineFault {
 }
 
 impl EngineFault {
+    // kept: `number` names which fact of a fault it gives; a From<..> for u8 would not
     // The fault's number.
     pub fn number(self) -> u8
         ensures { result ≡ fault_number self }

@@ -47,6 +47,7 @@ impl From<EngineFault> for FilterFault {
 }
 
 impl FilterFault {
+    // kept: `number` and `place` name which fact of a fault they give; a From<..> for u8 would not
     // The fault's number.
     pub fn number(self) -> u8
         ensures { result ≡ filter_number self }

@@ -71,6 +71,7 @@ impl From<FlatFault> for RuleFault {
 }
 
 impl RuleFault {
+    // kept: `number` and `place` name which fact of a fault they give; a From<..> for u8 would not
     // The fault's number.
     pub fn number(self) -> u8
         ensures { result ≡ rule_number self }

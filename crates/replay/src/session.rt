@@ -66,6 +66,7 @@ impl Session {
         }
     }
 
+    // kept: beside `add_hex`, since other text is no command there and no frame here
     // A frame that is given in hexadecimal is judged; other text is no frame.
     fn judge(&mut self, rt: &HostRuntime, text: &[u8]) -> io::Result<()> {
         match decode(rt.alloc(), text)? {

@@ -13,6 +13,7 @@ pub enum LineFault {
 }
 
 impl LineFault {
+    // kept: `number` and `place` name which fact of a fault they give; a From<..> for u8 would not
     // The fault's number.
     pub fn number(self) -> u8
         ensures { result ≡ line_number self }

@@ -4,6 +4,7 @@ ghost use Rattle.text.specs.Hexadecimal.{hex_digit, hex_pair, hex_low, hex_bytes
 
 use std::alloc::{AllocError, Global};
 
+// kept: the ranges are the definition; `to_digit(16)` says it by the library's table of digits
 // The value of a hexadecimal digit in either case.
 pub fn digit(c: u8) -> Option<u8>
     ensures { result ≡ hex_digit c }
@@ -23,12 +24,14 @@ fn byte(high: u8, low: u8) -> Option<u8>
     Some(digit(high)? * 16 + digit(low)?)
 }
 
+// kept: bad text and want of memory are two answers here; `hex::decode` of the kit has one error for both
 // The bytes of a text of pairs of hexadecimal digits; none for a lone digit or a byte that is no digit.
 pub fn decode(heap: Global, text: &[u8]) -> Result<Option<Vec<u8>>, AllocError>
     ensures { IfOk result (λ o. option_map vec_items o ≡ hex_bytes text.now) }
 {
     let mut bytes = Vec::new(heap);
     let mut rest = text;
+    // kept: the loop ends early in two ways, at a bad digit and for want of memory; a chain would hide the one in the other
     while let [high, low, tail @ ..] = rest {
         let Some(b) = byte(*high, *low) else {
             return Ok(None);
