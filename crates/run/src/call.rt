@@ -1,5 +1,5 @@
 // A call of a filter.
-#[derive(Clone, Copy)]
+#[derive(Clone, Copy, Debug, PartialEq, Eq)]
 pub enum Call<'a> {
     Add(&'a [u8]),
     Withdraw(usize),
