@@ -1,5 +1,5 @@
 -- The law leaves one answer to each call, but for want of room.
-use Rattle.std.proofs.Common.{◌≡◌, ℕ, ◌≤◌, false, List, [], ◌∷◌, ◌++◌, length, replicate, Some, None, Ok, Option, Result, sym, ap, ◌∙◌, subst, inl, inr, arith}
+use Rattle.std.proofs.Common.{◌≡◌, ℕ, ◌≤◌, true, false, List, [], ◌∷◌, ◌++◌, length, replicate, Some, None, Ok, Option, Result, sym, ap, ◌∙◌, subst, inl, inr, arith}
 use Rattle.engine.specs.Ops.{Agree, bit_at, spelt}
 use Rattle.engine.specs.Does.{Says}
 use Rattle.kind.specs.declared.rule.Rule.{Rule}
@@ -16,11 +16,11 @@ use Rattle.run.specs.declared.call.Call.{Call}
 use Rattle.run.specs.declared.call.Call.TheVariants.{Add, Withdraw, Commit, Judge, Compare}
 use Rattle.run.specs.Calls.{asked}
 use Rattle.run.specs.Law.{Frame, Decides, Shows, Told, Answers, Holds, Together, lacks}
-use Rattle.run.proofs.Judging.{split, judges_only}
+use Rattle.run.proofs.Judging.{judges_only}
 use Rattle.run.proofs.Numbers.{number_same}
 
 lacking : (a : Answer) → a ≡ no_room → lacks a ≡ false → ⊥
-lacking a e h = split (sym (ap lacks e) ∙ h)
+lacking a e h = let z : true ≡ false = sym (ap lacks e) ∙ h in cc
 
 same_ok : {A E : Type 0} (r : Result A E) (x y : A) → r ≡ Ok x → r ≡ Ok y → x ≡ y
 same_ok r x y p q = cc
