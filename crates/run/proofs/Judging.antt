@@ -31,7 +31,7 @@ so_decides n (r ∷ rs) (suc i) s d = (not_matched n r s d.0, so_decides n rs i 
 
 -- only bits 1 to n matter
 matches_local : (n : ℕ) (r : Rule) (s t : Bits) → Agree n s t → Matches n r s → Matches n r t
-matches_local n r s t a m v l h c = sym (a v l h) ∙ m v l h c
+matches_local n r s t a m v l h c = cc (a v l h, m v l h c)
 
 pub decides_local : (n : ℕ) (rs : List Rule) (i : ℕ) (s t : Bits) → Agree n s t → Decides n rs i s → Decides n rs i t
 decides_local n [] i s t a d = d

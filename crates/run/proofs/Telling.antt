@@ -1,6 +1,6 @@
 -- What the filter's answers tell, over frames.
 use Rattle.std.proofs.Common.{◌≡◌, ℕ, ◌<◌, ◌≤◌, Bool, List, [], ◌∷◌, ◌++◌, length, replicate, Some, None, Ok, Option, sym, ◌∙◌, inl, inr, arith}
-use Rattle.engine.specs.Ops.{Bits, Agree, bit_at, spelt}
+use Rattle.engine.specs.Ops.{Bits, Agree, bit_at}
 use Rattle.engine.specs.Does.{Says}
 use Rattle.kind.specs.declared.rule.Rule.{Rule}
 use Rattle.kind.specs.Kinds.{Reading, Lawful}

@@ -1,17 +1,13 @@
 -- The law leaves one answer to each call, but for want of room.
-use Rattle.std.proofs.Common.{◌≡◌, ℕ, ◌≤◌, true, false, List, [], ◌∷◌, ◌++◌, length, replicate, Some, None, Ok, Option, Result, sym, ap, ◌∙◌, subst, inl, inr, arith}
-use Rattle.engine.specs.Ops.{Agree, bit_at, spelt}
-use Rattle.engine.specs.Does.{Says}
+use Rattle.std.proofs.Common.{◌≡◌, ℕ, true, false, List, [], ◌∷◌, ◌++◌, length, Some, None, Option, sym, ap, ◌∙◌, subst, inl, inr, arith}
+use Rattle.engine.specs.Ops.{Agree, bit_at}
 use Rattle.kind.specs.declared.rule.Rule.{Rule}
-use Rattle.kind.specs.declared.rule.Action.{Action}
-use Rattle.kind.specs.Kinds.{Reading, Lawful, over}
+use Rattle.kind.specs.Kinds.{Reading, Lawful}
 use Rattle.search.proofs.Picks.{same_says}
-use Rattle.filter.specs.declared.answer.Reply.TheVariants.{Added, Verdict, Differs}
 use Rattle.filter.specs.declared.fault.FilterFault.{FilterFault}
-use Rattle.filter.specs.declared.answer.Added.{Added as Done}
 use Rattle.filter.specs.Answers.{Answer}
 use Rattle.filter.specs.Books.{Books}
-use Rattle.filter.specs.Calls.{refusal, drawn, verdict, no_room}
+use Rattle.filter.specs.Calls.{refusal, drawn, no_room}
 use Rattle.run.specs.declared.call.Call.{Call}
 use Rattle.run.specs.declared.call.Call.TheVariants.{Add, Withdraw, Commit, Judge, Compare}
 use Rattle.run.specs.Calls.{asked}
