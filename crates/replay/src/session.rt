@@ -1,24 +1,56 @@
 use crate::show::{Bits, Refusal, Shown};
 use filter::filter::Filter;
 use flat::flat_kind::FlatKind;
+use ipv6::ipv6_kind::Ipv6Kind;
 use kind::kind::Kind;
 use run::call::Call;
 use run::perform::perform;
-use script::command::{BadCommand, Command, read_command};
+use script::command::{BadCommand, Command, KindName, read_command};
 use std::io;
 use text::hex::decode;
 use word::word::WordEngine;
 
+// A filter of one of the kinds.
+#[derive(Drop)]
+enum Opened {
+    Flat(Filter<FlatKind, WordEngine>),
+    Ipv6(Filter<Ipv6Kind, WordEngine>),
+}
+
 // The filter that a script works on; there is none before the script's first box.
 #[derive(Drop)]
 pub struct Session {
-    filter: Option<Filter<FlatKind, WordEngine>>,
+    filter: Option<Opened>,
 }
 
-// A flat filter on a word engine of so many variables, the kind's where no number is given.
-fn new_filter(n: Option<usize>) -> Filter<FlatKind, WordEngine> {
-    let n = n.map_or(FlatKind.bits(), |n| n.min(255) as u8);
-    Filter::new(FlatKind, WordEngine::new(n))
+// A filter of this kind on a word engine of so many variables, the kind's where no number is given.
+fn new_filter<K: Kind>(kind: K, n: Option<usize>) -> Filter<K, WordEngine> {
+    let n = n.map_or(kind.bits(), |n| n.min(255) as u8);
+    Filter::new(kind, WordEngine::new(n))
+}
+
+impl Opened {
+    // A new filter of the kind of this name.
+    fn new(kind: KindName, n: Option<usize>) -> Opened {
+        match kind {
+            KindName::Flat => Opened::Flat(new_filter(FlatKind, n)),
+            KindName::Ipv6 => Opened::Ipv6(new_filter(Ipv6Kind, n)),
+        }
+    }
+
+    // One call of the filter, and its answer.
+    fn perform(&mut self, call: &Call) -> Shown {
+        match self {
+            Opened::Flat(filter) => Shown {
+                answer: perform(filter, call),
+                size: FlatKind.size(),
+            },
+            Opened::Ipv6(filter) => Shown {
+                answer: perform(filter, call),
+                size: Ipv6Kind.size(),
+            },
+        }
+    }
 }
 
 // The answer to a line that is no command, or whose command cannot be carried out.
@@ -26,12 +58,16 @@ fn refuse(rt: &HostRuntime) -> io::Result<()> {
     println!(rt; "bad command")
 }
 
-// The rule of a line that is given in hexadecimal.
-fn read(rt: &HostRuntime, text: &[u8]) -> io::Result<()> {
+// The rule of a line of this kind that is given in hexadecimal.
+fn read(rt: &HostRuntime, kind: KindName, text: &[u8]) -> io::Result<()> {
     let Some(line) = decode(rt.alloc(), text)? else {
         return refuse(rt);
     };
-    match FlatKind.read(line.as_slice()) {
+    let read = match kind {
+        KindName::Flat => FlatKind.read(line.as_slice()),
+        KindName::Ipv6 => Ipv6Kind.read(line.as_slice()),
+    };
+    match read {
         Ok(rule) => println!(rt; "{}", Bits(rule)),
         Err(fault) => println!(rt; "{}", Refusal(fault.into())),
     }
@@ -48,14 +84,7 @@ impl Session {
         let Some(filter) = &mut self.filter else {
             return refuse(rt);
         };
-        let answer = perform(filter, call);
-        println!(rt;
-            "{}",
-            Shown {
-                answer,
-                size: FlatKind.size()
-            }
-        )
+        println!(rt; "{}", filter.perform(call))
     }
 
     // A line that is given in hexadecimal is added.
@@ -78,9 +107,9 @@ impl Session {
     // A command is carried out, and its answer printed.
     fn carry_out(&mut self, rt: &HostRuntime, command: Command) -> io::Result<()> {
         match command {
-            Command::Read(text) => read(rt, text),
-            Command::Flat(n) => {
-                self.filter = Some(new_filter(n));
+            Command::Read(kind, text) => read(rt, kind, text),
+            Command::Filter(kind, n) => {
+                self.filter = Some(Opened::new(kind, n));
                 println!(rt; "ready")
             }
             Command::Add(line) => self.ask(rt, &Call::Add(line)),

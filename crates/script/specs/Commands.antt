@@ -4,14 +4,16 @@ use Rattle.std.specs.Option.{ok_or}
 use Rattle.std.specs.Str.{bytes_eq}
 use Rattle.text.specs.Split.{before}
 use Rattle.script.specs.declared.command.Command.{Command}
-use Rattle.script.specs.declared.command.Command.TheVariants.{Read, Flat, Add, AddHex, Judge, Withdraw, Commit, Compare}
+use Rattle.script.specs.declared.command.Command.TheVariants.{Read, Filter, Add, AddHex, Judge, Withdraw, Commit, Compare}
 use Rattle.script.specs.declared.command.BadCommand.{BadCommand}
+use Rattle.script.specs.declared.command.KindName.{KindName}
+use Rattle.script.specs.declared.command.KindName.TheVariants.{Flat, Ipv6}
 use Rattle.script.specs.Decimals.{decimal_of}
 
 -- what a line asks for, with the bytes that it names
 pub data Said : Type 0 where
-  read : List ℕ → Said
-  flat : Option ℕ → Said
+  read : KindName → List ℕ → Said
+  filter : KindName → Option ℕ → Said
   add : List ℕ → Said
   add_hex : List ℕ → Said
   judge : List ℕ → Said
@@ -21,8 +23,8 @@ pub data Said : Type 0 where
 
 -- what the code's command says
 abbrev pub shown : Command → Said
-shown (Read t) = read t.now
-shown (Flat n) = flat n
+shown (Read k t) = read k t.now
+shown (Filter k n) = filter k n
 shown (Add t) = add t.now
 shown (AddHex t) = add_hex t.now
 shown (Judge t) = judge t.now
@@ -62,9 +64,18 @@ spaced t = nat_lt (before 32 t) (length t)
 abbrev pub halves : List ℕ → Option (List ℕ × List ℕ)
 halves t = cond (spaced t) (Some (front t, behind t)) None
 
+-- the kind that a word names
+abbrev pub kind_of : List ℕ → Result KindName BadCommand
+kind_of w = cond (bytes_eq w (codes "flat")) (Ok Flat) (cond (bytes_eq w (codes "ipv6")) (Ok Ipv6) (Err bad))
+
+-- what f says of the kind, where there is one
+abbrev pub with_kind : Result KindName BadCommand → (KindName → Result Said BadCommand) → Result Said BadCommand
+with_kind (Ok k) f = f k
+with_kind (Err e) f = Err e
+
 -- the rest of a read: the kind, a space, and a line in hexadecimal
 abbrev pub read_of : List ℕ → Result Said BadCommand
-read_of rest = cond (spaced rest) (cond (bytes_eq (front rest) (codes "flat")) (Ok (read (behind rest))) (Err bad)) (Err bad)
+read_of rest = cond (spaced rest) (with_kind (kind_of (front rest)) (λ k. Ok (read k (behind rest)))) (Err bad)
 
 -- the number of variables that a box is given: `n`, a space and a number
 abbrev pub size_of : List ℕ → Result ℕ BadCommand
@@ -76,7 +87,7 @@ engine_of t = cond (spaced t) (cond (bytes_eq (front t) (codes "word")) (ok_map 
 
 -- the rest of a box: the kind, a space, and the engine
 abbrev pub box_of : List ℕ → Result Said BadCommand
-box_of rest = cond (spaced rest) (cond (bytes_eq (front rest) (codes "flat")) (ok_map flat (engine_of (behind rest))) (Err bad)) (Err bad)
+box_of rest = cond (spaced rest) (with_kind (kind_of (front rest)) (λ k. ok_map (filter k) (engine_of (behind rest)))) (Err bad)
 
 -- a command of a word, a space and an argument that is read in turn
 abbrev pub with_argument : List ℕ → List ℕ → Result Said BadCommand

@@ -1,6 +1,6 @@
 ghost use Rattle.std.specs.Prelude.{◌≡◌};
 ghost use Rattle.std.specs.Option.{option_map};
-ghost use Rattle.script.specs.Commands.{ok_map, alone, with_rest, with_argument, read_of, size_of, engine_of, box_of, worded, command_of, halves, shown};
+ghost use Rattle.script.specs.Commands.{ok_map, alone, with_rest, with_argument, kind_of, read_of, size_of, engine_of, box_of, worded, command_of, halves, shown};
 
 use crate::decimal::decimal;
 use text::split::find_byte;
@@ -11,13 +11,20 @@ const SPACE: u8 = b' ';
 // The byte that begins a comment.
 const COMMENT: u8 = b'#';
 
+// The name of a kind of frame.
+#[derive(Clone, Copy, Debug, PartialEq, Eq)]
+pub enum KindName {
+    Flat,
+    Ipv6,
+}
+
 // What a line of a script asks for.
 #[derive(Clone, Copy, Debug, PartialEq, Eq)]
 pub enum Command<'a> {
-    // the rule of a flat rule line, given in hexadecimal
-    Read(&'a [u8]),
-    // a new flat filter on a word engine, of so many variables where a number is given
-    Flat(Option<usize>),
+    // the rule of a rule line of this kind, given in hexadecimal
+    Read(KindName, &'a [u8]),
+    // a new filter of this kind on a word engine, of so many variables where a number is given
+    Filter(KindName, Option<usize>),
     Add(&'a [u8]),
     AddHex(&'a [u8]),
     Judge(&'a [u8]),
@@ -49,14 +56,23 @@ fn halve(text: &[u8]) -> Option<(&[u8], &[u8])>
     Some((&text[..at], &text[at + 1..]))
 }
 
+// The kind that a word names.
+fn read_kind(word: &[u8]) -> Result<KindName, BadCommand>
+    ensures { result ≡ kind_of word.now }
+{
+    match word {
+        b"flat" => Ok(KindName::Flat),
+        b"ipv6" => Ok(KindName::Ipv6),
+        _ => Err(BadCommand),
+    }
+}
+
 // The rest of a read: a kind, and a line in hexadecimal.
 fn read_read(rest: &[u8]) -> Result<Command<'_>, BadCommand>
     ensures { ok_map shown result ≡ read_of rest.now }
 {
-    match halve(rest) {
-        Some((b"flat", line)) => Ok(Command::Read(line)),
-        _ => Err(BadCommand),
-    }
+    let (kind, line) = halve(rest).ok_or(BadCommand)?;
+    Ok(Command::Read(read_kind(kind)?, line))
 }
 
 // The number of variables: `n`, and a number.
@@ -84,10 +100,8 @@ fn read_engine(text: &[u8]) -> Result<Option<usize>, BadCommand>
 fn read_box(rest: &[u8]) -> Result<Command<'_>, BadCommand>
     ensures { ok_map shown result ≡ box_of rest.now }
 {
-    match halve(rest) {
-        Some((b"flat", engine)) => Ok(Command::Flat(read_engine(engine)?)),
-        _ => Err(BadCommand),
-    }
+    let (kind, engine) = halve(rest).ok_or(BadCommand)?;
+    Ok(Command::Filter(read_kind(kind)?, read_engine(engine)?))
 }
 
 // A command of a word and an argument that is read in turn.
