@@ -1,4 +1,5 @@
 use crate::show::{Bits, Refusal, Shown};
+use engine::assignment::BYTES;
 use filter::filter::Filter;
 use flat::flat_kind::FlatKind;
 use ipv6::ipv6_kind::Ipv6Kind;
@@ -117,7 +118,7 @@ impl Session {
             Command::Judge(text) => self.judge(rt, text),
             Command::Withdraw(number) => self.ask(rt, &Call::Withdraw(number)),
             Command::Commit => self.ask(rt, &Call::Commit),
-            Command::Compare => self.ask(rt, &Call::Compare),
+            Command::Compare => self.ask(rt, &Call::Compare([0; BYTES])),
         }
     }
 

@@ -3,3 +3,4 @@ pub mod Numbers
 pub mod Telling
 pub mod Runs
 pub mod Together
+pub mod Placing

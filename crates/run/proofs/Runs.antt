@@ -7,7 +7,7 @@ use Rattle.filter.specs.Books.{Books}
 use Rattle.filter.specs.Calls.{refusal}
 use Rattle.filter.specs.Turns.{Turn}
 use Rattle.run.specs.declared.call.Call.{Call}
-use Rattle.run.specs.Calls.{asked}
+use Rattle.run.specs.Calls.{asked, all_asked}
 use Rattle.run.specs.Law.{Holds}
 use Rattle.run.specs.Worked.{Worked}
 use Rattle.run.proofs.Telling.{answers}
@@ -27,7 +27,7 @@ one_more R k e b (y ∷ cs) [] z z' d d' c a h t = absurd h
 one_more R k e b (y ∷ cs) (x ∷ xs) z z' d d' c a (m, l, u, h) t = (m, l, u, one_more R k m l cs xs z z' d d' c a h t)
 
 -- the law of the run
-pub holds : (R : Rooms) (k : Reading) → Lawful k → (e : View R.Shape) (b : Books) (cs : List Call) (xs : List Answer) (z : View R.Shape) (d : Books) → Leads R k e b cs xs z d → Holds k e.vars b cs xs
+pub holds : (R : Rooms) (k : Reading) → Lawful k → (e : View R.Shape) (b : Books) (cs : List Call) (xs : List Answer) (z : View R.Shape) (d : Books) → Leads R k e b cs xs z d → Holds k e.vars b (all_asked cs) xs
 holds R k w e b [] [] z d h = tt
 holds R k w e b [] (a ∷ xs) z d h = absurd h
 holds R k w e b (c ∷ cs) [] z d h = absurd h

@@ -49,16 +49,16 @@ module _ (k : Reading) (law : Lawful k) where
       not_less : {x y : ℕ} → (y < x → ⊥) → x ≤ y
       not_less h = omega arith
 
-  told : (b : Books) (c : Call) (a : Answer) → filter.Fair k b (asked c) a → Told k b c a
+  told : (b : Books) (c : Call) (a : Answer) → filter.Fair k b (asked c) a → Told k b (asked c) a
   told b (Add line) a (inl p) = inl record { rule = p.rule; read = p.read; told = p.told; answer = p.answer; place = p.number; idle = none_so (b.draft ++ (p.rule ∷ [])) (length b.draft) p.told.idle p.idle }
   told b (Add line) a (inr e) = inr e
   told b (Withdraw i) a p = p
   told b Commit a p = p
   told b (Judge frame) a p = record { bits = p.bits; turned = p.turned; action = verdict k.bits b.live (bit_at p.bits); judged = judges k.bits b.live (bit_at p.bits); answer = p.answer }
-  told b Compare a (inl p) = inl record { same = λ f t frame. same_at k.bits b (bit_at t) (p.same (bit_at t)); answer = p.answer }
-  told b Compare a (inr (inl p)) = inr (inl (shows b a p))
-  told b Compare a (inr (inr e)) = inr (inr e)
+  told b (Compare place) a (inl p) = inl record { same = λ f t frame. same_at k.bits b (bit_at t) (p.same (bit_at t)); answer = p.answer }
+  told b (Compare place) a (inr (inl p)) = inr (inl (shows b a p))
+  told b (Compare place) a (inr (inr e)) = inr (inr e)
 
-  pub answers : (o : Option FilterFault) (b : Books) (c : Call) (a : Answer) → filter.By o k b (asked c) a → Answers o k b c a
+  pub answers : (o : Option FilterFault) (b : Books) (c : Call) (a : Answer) → filter.By o k b (asked c) a → Answers o k b (asked c) a
   answers (Some f) b c a p = p
   answers None b c a p = told b c a p

@@ -14,10 +14,7 @@ use Rattle.filter.specs.declared.fault.FilterFault.{FilterFault}
 use Rattle.filter.specs.declared.fault.FilterFault.TheVariants as fault
 use Rattle.filter.specs.Answers.{Answer}
 use Rattle.filter.specs.Books.{Books}
-use Rattle.filter.specs.Calls.{refusal, drawn, no_room}
-use Rattle.run.specs.declared.call.Call.{Call}
-use Rattle.run.specs.declared.call.Call.TheVariants.{Add, Withdraw, Commit, Judge, Compare}
-use Rattle.run.specs.Calls.{asked}
+use Rattle.filter.specs.Calls.{Asked, adding, committing, judging, withdrawing, comparing, refusal, drawn, no_room}
 
 -- the kind takes the bytes f as a frame, whose bits the bytes t spell
 abbrev pub Frame : Reading → List ℕ → List ℕ → Type 0
@@ -74,24 +71,24 @@ pub record Shows (k : Reading) (b : Books) (a : Answer) : Type 0 where
   pub answer : a ≡ Ok (Differs (over frame (replicate 18 0)))
 
 -- what a call that is not refused beforehand is answered; only the room is left open by the books
-abbrev pub Told : Reading → Books → Call → Answer → Type 0
-Told k b (Add line) a = Adds k b line.now a ⊎ (a ≡ no_room)
-Told k b (Withdraw i) a = (a ≡ Ok Withdrawn) ⊎ (a ≡ no_room)
-Told k b Commit a = a ≡ Ok Committed
-Told k b (Judge frame) a = Decided k b frame.now a
-Told k b Compare a = Agrees k b a ⊎ (Shows k b a ⊎ (a ≡ no_room))
+abbrev pub Told : Reading → Books → Asked → Answer → Type 0
+Told k b (adding line) a = Adds k b line a ⊎ (a ≡ no_room)
+Told k b (withdrawing i) a = (a ≡ Ok Withdrawn) ⊎ (a ≡ no_room)
+Told k b committing a = a ≡ Ok Committed
+Told k b (judging frame) a = Decided k b frame a
+Told k b (comparing place) a = Agrees k b a ⊎ (Shows k b a ⊎ (a ≡ no_room))
 
 -- the defined refusal, with its place, or the answer
-abbrev pub Answers : Option FilterFault → Reading → Books → Call → Answer → Type 0
+abbrev pub Answers : Option FilterFault → Reading → Books → Asked → Answer → Type 0
 Answers (Some f) k b c a = a ≡ Err f
 Answers None k b c a = Told k b c a
 
--- a run of calls and its answers, from the books b: each is right for the books that the calls before it left; n is the engine's number of variables
-abbrev pub Holds : Reading → ℕ → Books → List Call → List Answer → Type 0
+-- what was asked and the answers, from the books b: each is right for the books that the calls before it left; n is the engine's number of variables
+abbrev pub Holds : Reading → ℕ → Books → List Asked → List Answer → Type 0
 Holds k n b [] [] = Unit {0}
 Holds k n b [] (a ∷ xs) = ⊥
 Holds k n b (c ∷ cs) [] = ⊥
-Holds k n b (c ∷ cs) (a ∷ xs) = Answers (refusal k n b (asked c)) k b c a × Holds k n (drawn k b (asked c) a) cs xs
+Holds k n b (c ∷ cs) (a ∷ xs) = Answers (refusal k n b c) k b c a × Holds k n (drawn k b c a) cs xs
 
 -- the fault is want of room
 abbrev pub wants : FilterFault → Bool

@@ -1,3 +1,5 @@
+use engine::assignment::Assignment;
+
 // A call of a filter.
 #[derive(Clone, Copy, Debug, PartialEq, Eq)]
 pub enum Call<'a> {
@@ -5,5 +7,6 @@ pub enum Call<'a> {
     Withdraw(usize),
     Commit,
     Judge(&'a [u8]),
-    Compare,
+    // with what the place that is lent for a frame holds
+    Compare(Assignment),
 }

@@ -1,23 +1,33 @@
 ghost use Rattle.std.specs.Prelude.{◌≡◌, replicate};
 ghost use Rattle.filter.specs.Calls.{comparing};
 ghost use Rattle.filter.specs.Turns.{Turns};
-ghost use Rattle.run.specs.Calls.{asked};
+ghost use Rattle.run.specs.Calls.{asked, fronted};
 
 use crate::call::Call;
-use engine::assignment::BYTES;
+use engine::assignment::{Assignment, BYTES};
 use engine::calls::DecidingEngine;
 use filter::answer::{Answer, Comparison, Reply};
 use filter::filter::Filter;
 use kind::kind::Kind;
 
-// A compare into a place of its own.
-fn compare<K: Kind, E: DecidingEngine>(filter: &mut Filter<K, E>) -> Answer
+// The first bytes of a place, and zeros behind them.
+fn first_bytes(place: &Assignment, size: u8) -> Assignment
+    ensures { result ≡ fronted size place.now }
+{
+    let size = usize::from(size).min(BYTES);
+    let mut bytes = [0; BYTES];
+    bytes[..size].copy_from_slice(&place[..size]);
+    bytes
+}
+
+// A compare into a copy of the place; the answer shows the frame alone.
+fn compare<K: Kind, E: DecidingEngine>(filter: &mut Filter<K, E>, place: &Assignment) -> Answer
     ensures { Turns E.Engine.rooms E.Engine.view K.Kind.reading (comparing (replicate 18 0)) filter.old filter.new result }
 {
-    let mut place = [0u8; BYTES];
-    Ok(match filter.compare(&mut place)? {
+    let mut copy = *place;
+    Ok(match filter.compare(&mut copy)? {
         Comparison::Alike => Reply::Alike,
-        Comparison::Differs => Reply::Differs(place),
+        Comparison::Differs => Reply::Differs(first_bytes(&copy, filter.frame_size())),
     })
 }
 
@@ -36,6 +46,6 @@ pub fn perform<K: Kind, E: DecidingEngine>(filter: &mut Filter<K, E>, call: &Cal
             Ok(Reply::Committed)
         }
         Call::Judge(frame) => Ok(Reply::Verdict(filter.judge(frame)?)),
-        Call::Compare => compare(filter),
+        Call::Compare(place) => compare(filter, place),
     }
 }

@@ -1,5 +1,6 @@
 ghost use Rattle.std.specs.Prelude.{◌≡◌, IfOk};
 ghost use Rattle.filter.specs.Books.{no_rules};
+ghost use Rattle.run.specs.Calls.{all_asked};
 ghost use Rattle.run.specs.Law.{Holds, Together, JudgedOnce};
 ghost use Rattle.run.specs.Worked.{Worked, fresh};
 
@@ -18,7 +19,7 @@ pub fn run<K: Kind + Drop, E: DecidingEngine + Drop>(
     engine: E,
     calls: &[Call],
 ) -> Result<Vec<Answer>, AllocError>
-    ensures law { IfOk result (λ v. Holds K.Kind.reading (E.Engine.view engine).vars no_rules calls.now v.items) }
+    ensures law { IfOk result (λ v. Holds K.Kind.reading (E.Engine.view engine).vars no_rules (all_asked calls.now) v.items) }
     ensures rooms { IfOk result (λ v. Worked E.Engine.rooms K.Kind.reading (fresh E.Engine.rooms (E.Engine.view engine)) no_rules calls.now v.items) }
 {
     let mut filter = Filter::new(kind, engine);
@@ -29,18 +30,22 @@ pub fn run<K: Kind + Drop, E: DecidingEngine + Drop>(
     Ok(answers)
 }
 
-// The answers of two new filters for one kind, each on an engine of its own, to the same calls.
+// The answers of two new filters for one kind, each on an engine of its own, to two lists of calls. Where both ask the
+// same, whatever the places of their compares hold, the answers are the same up to the first that tells of no room.
 pub fn run_both<K: Kind + Copy, E: DecidingEngine + Drop, F: DecidingEngine + Drop>(
     heap: Global,
     kind: K,
     one: E,
     two: F,
     calls: &[Call],
+    others: &[Call],
 ) -> Result<(Vec<Answer>, Vec<Answer>), AllocError>
-    ensures { IfOk result (λ v. Holds K.Kind.reading (E.Engine.view one).vars no_rules calls.now v.0.items × Holds K.Kind.reading (F.Engine.view two).vars no_rules calls.now v.1.items × ((E.Engine.view one).vars ≡ K.Kind.reading.bits → (F.Engine.view two).vars ≡ K.Kind.reading.bits → Together v.0.items v.1.items)) }
+    ensures one { IfOk result (λ v. Holds K.Kind.reading (E.Engine.view one).vars no_rules (all_asked calls.now) v.0.items) }
+    ensures two { IfOk result (λ v. Holds K.Kind.reading (F.Engine.view two).vars no_rules (all_asked others.now) v.1.items) }
+    ensures together { (E.Engine.view one).vars ≡ K.Kind.reading.bits → (F.Engine.view two).vars ≡ K.Kind.reading.bits → all_asked calls.now ≡ all_asked others.now → IfOk result (λ v. Together v.0.items v.1.items) }
 {
     let first = run(heap, kind, one, calls)?;
-    let second = run(heap, kind, two, calls)?;
+    let second = run(heap, kind, two, others)?;
     Ok((first, second))
 }
 

@@ -1,4 +1,4 @@
-use engine::assignment::BYTES;
+use engine::assignment::{Assignment, BYTES};
 use filter::answer::{Added, Answer, Reply};
 use flat::flat_kind::FlatKind;
 use kind::rule::Action;
@@ -24,6 +24,9 @@ const ALIKE: Told = Ok(Reply::Alike);
 const BLOCKS: Told = Ok(Reply::Verdict(Action::Block));
 
 const PASSES: Told = Ok(Reply::Verdict(Action::Pass));
+
+// The place of a compare; no answer shows what it holds before.
+const PLACE: Assignment = [0xff; BYTES];
 
 // A rule of this number that decides some frame.
 fn acts(number: usize) -> Told {
@@ -171,16 +174,16 @@ fn compare_gives_the_least_frame(rt: HostRuntime) -> Result<(), Fail> {
         rt.alloc(),
         BITS,
         &[
-            Call::Compare,
+            Call::Compare(PLACE),
             Call::Add(b"block 3 *"),
             Call::Commit,
-            Call::Compare,
+            Call::Compare(PLACE),
             Call::Add(b"block 1 *"),
-            Call::Compare,
+            Call::Compare(PLACE),
             Call::Commit,
-            Call::Compare,
+            Call::Compare(PLACE),
             Call::Withdraw(2),
-            Call::Compare,
+            Call::Compare(PLACE),
         ],
         &[
             ALIKE,
@@ -238,11 +241,11 @@ fn only_a_rule_of_the_draft_is_withdrawn(rt: HostRuntime) -> Result<(), Fail> {
             Call::Withdraw(1),
             Call::Add(b"block 3 *"),
             Call::Commit,
-            Call::Compare,
+            Call::Compare(PLACE),
             Call::Withdraw(0),
             Call::Withdraw(2),
             Call::Withdraw(usize::MAX),
-            Call::Compare,
+            Call::Compare(PLACE),
             Call::Add(b"block 1 *"),
         ],
         &[
@@ -274,7 +277,7 @@ fn an_engine_of_five_variables_is_refused(rt: HostRuntime) -> Result<(), Fail> {
             Call::Commit,
             Call::Judge(&[0x1d]),
             Call::Judge(&[64]),
-            Call::Compare,
+            Call::Compare(PLACE),
         ],
         &[Err((14, 0)); 8],
     )
@@ -294,7 +297,7 @@ fn a_refused_call_changes_nothing(rt: HostRuntime) -> Result<(), Fail> {
             Call::Judge(&[64]),
             Call::Judge(&[]),
             Call::Judge(&[1, 2]),
-            Call::Compare,
+            Call::Compare(PLACE),
             Call::Add(b"block 3 *"),
         ],
         &[
@@ -311,6 +314,20 @@ fn a_refused_call_changes_nothing(rt: HostRuntime) -> Result<(), Fail> {
     )
 }
 
+// The calls that two engines are asked; what the place of a compare holds bears on no answer.
+fn both_asked(place: Assignment) -> [Call<'static>; 8] {
+    [
+        Call::Add(b"block 3 *"),
+        Call::Add(b"pass 3 5"),
+        Call::Add(b"drop 1 2"),
+        Call::Compare(place),
+        Call::Commit,
+        Call::Judge(&[0x1d]),
+        Call::Withdraw(1),
+        Call::Compare(place),
+    ]
+}
+
 #[test]
 fn two_engines_answer_alike(rt: HostRuntime) -> Result<(), Fail> {
     let (one, two) = run_both(
@@ -318,16 +335,8 @@ fn two_engines_answer_alike(rt: HostRuntime) -> Result<(), Fail> {
         FlatKind,
         WordEngine::new(BITS),
         WordEngine::new(BITS),
-        &[
-            Call::Add(b"block 3 *"),
-            Call::Add(b"pass 3 5"),
-            Call::Add(b"drop 1 2"),
-            Call::Compare,
-            Call::Commit,
-            Call::Judge(&[0x1d]),
-            Call::Withdraw(1),
-            Call::Compare,
-        ],
+        &both_asked(PLACE),
+        &both_asked([0; BYTES]),
     )?;
     let expected = [
         acts(1),

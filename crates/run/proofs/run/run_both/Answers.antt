@@ -3,11 +3,5 @@ use Rattle.filter.specs.Books.{no_rules}
 use Rattle.run.proofs.Together.{together}
 use Rattle.run.proofs.run.run_both.Goals as goal
 
-pub returns : goal.returns
-returns g c =
-    let one = c.in_ok-first.ensures.law in
-    let two = c.in_ok-second.ensures.law in (
-      one,
-      two,
-      λ e f. together g.K.Kind.reading g.met.K.Kind.lawful _ no_rules c.args.calls.now _ _ one (rw (f ∙ sym e) at two),
-    )
+pub returns-clause-together : goal.returns-clause-together
+returns-clause-together g c = λ e f s. together g.K.Kind.reading g.met.K.Kind.lawful _ no_rules _ _ _ (rw s at c.in_ok-first.ensures.law) (rw (f ∙ sym e) at c.in_ok-second.ensures.law)
