@@ -2,7 +2,8 @@
 use Rattle.std.specs.Prelude.{◌≡◌, ℕ, ◌<◌, ◌≤◌, Bool, true, false, cond, List, ◌++◌, length, Ok, Err, Result, ◌==◌, refl}
 use Rattle.std.proofs.Common.{sym, ap, ◌∙◌, append-nil, arith, lit≤}
 use Rattle.std.proofs.lemmas.List.{at_drop_all}
-use Rattle.std.proofs.lemmas.Bool.{eqb-true, eq-eqb}
+use Rattle.std.proofs.lemmas.Bool.{eq-eqb}
+use Rattle.std.proofs.lemmas.Bool.Decides.{nat_tests}
 use Rattle.engine.specs.Ops.{bit_at}
 use Rattle.kind.specs.declared.rule.Rule.{Rule}
 use Rattle.kind.specs.declared.fault.RuleFault.{RuleFault}
@@ -21,18 +22,14 @@ cares : (line : List ℕ) (r : Rule) → ipv6_rule line ≡ Ok r → (v : ℕ) �
 cares line r e v l = go (line_said line) e
   where
     go : (a : Result Said RuleFault) → ruled a ≡ Ok r → bit_at r.care v ≡ false
-    go (Err f) e = let z : ◌≡◌ {A = ℕ} 0 1 = cc in absurd (omega arith)
-    go (Ok s) e = let z : rule_of s ≡ r = cc in ap (λ (q : Rule). bit_at q.care v) (sym z) ∙ late 18 _ v l
+    go (Err f) e = cc
+    go (Ok s) e = let z : r ≡ rule_of s = cc in rw z (late 18 _ v l)
 
 turned : (frame s : List ℕ) → frame_bits frame ≡ Ok s → (length frame ≡ 18) × (frame ≡ s)
-turned frame s e = go (length frame == 18) refl e
-  where
-    go : (q : Bool) → (length frame == 18) ≡ q → ◌≡◌ {A = Result (List ℕ) FrameFault} (cond q (Ok frame) (Err Wrong)) (Ok s) → (length frame ≡ 18) × (frame ≡ s)
-    go true h k = (eqb-true (length frame) 18 h, cc)
-    go false h k = let z : ◌≡◌ {A = ℕ} 0 1 = cc in absurd (omega arith)
+turned frame s e = grind (arith, nat_tests)
 
 back : (frame s : List ℕ) → Bytes frame → frame_bits frame ≡ Ok s → frame_of (bit_at s) ≡ frame
-back frame s b e = let t = turned frame s e in ap (λ x. frame_of (bit_at x)) (sym t.1) ∙ frame_back frame t.0 b
+back frame s b e = let t = turned frame s e in rw (← t.1) (frame_back frame t.0 b)
 
 pub ipv6_lawful : Lawful ipv6
 ipv6_lawful = record {
@@ -43,7 +40,7 @@ ipv6_lawful = record {
   only = frame_only;
   sized = frame_length;
   whole = frame_small;
-  forth = λ s. (frame_of s, ap (λ q. cond q (Ok (frame_of s)) (Err Wrong)) (eq-eqb (length (frame_of s)) 18 (frame_length s)), frame_forth s);
+  forth = λ s. (frame_of s, rw (eq-eqb (length (frame_of s)) 18 (frame_length s)) refl, frame_forth s);
   back = back;
 }
 
