@@ -44,10 +44,6 @@ ipv6_lawful = record {
   back = back;
 }
 
--- a rule by its bits
-pub rule_is : (s : Said) (v k : List ℕ) → v ≡ value_bytes s.prefix.address s.port → k ≡ care_bytes s.prefix.length s.port → record { action = s.action; value = v; care = k } ≡ rule_of s
-rule_is s v k e f = rw (e, f) refl
-
 -- a place into which the bytes of some bits are copied holds their frame
 pub copied : (bits was place : List ℕ) → place ≡ bits → length bits ≡ 18 → length was ≤ 18 → Bytes bits → place ≡ over (frame_of (bit_at bits)) was
 copied bits was place s b w h =

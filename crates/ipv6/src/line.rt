@@ -57,7 +57,6 @@ impl Said {
     }
 
     // The rule that this says.
-    #[tactic(auto, using(crate::specs::Laws::rule_is))]
     pub fn rule(self) -> Rule
         ensures { result ≡ rule_of self }
     {

@@ -12,5 +12,5 @@ returns-in_err-said c =
 
 pub returns : goal.returns
 returns c =
-    let e : Ok c.rule.result ≡ ipv6_rule c.args.line.now = ap Ok c.rule.ensures ∙ ap ruled c.in_ok-said.ensures in
+    let e : Ok c.rule.result ≡ ipv6_rule c.args.line.now = search rules in
     record { value = e; grammar = accepts_rule c.args.line.now _ e; refusal = refuses_rule c.args.line.now _ e; meaning = rule_meant c.args.line.now _ e }
