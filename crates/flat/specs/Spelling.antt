@@ -1,20 +1,13 @@
 -- The six bits of a flat frame, and the byte that they spell.
 use Rattle.std.specs.Prelude.{◌≡◌, ℕ, zero, suc, ◌+◌, ◌*◌, ◌/◌, ◌%◌, ◌<◌, ◌≤◌, Bool, true, false, ◌⊎◌, List, [], ◌∷◌, length, drop, ◌==◌, slice_index, slice_index_or, slice_set, refl}
 use Rattle.std.proofs.Common.{sym, ap, ◌∙◌, inl, inr, arith, mod-lt, lit<}
-use Rattle.std.proofs.Math.Decide.{dec_lt}
+use Rattle.std.proofs.lemmas.Bool.Decides.{nat_tests}
 use Rattle.engine.specs.Ops.{Bits, Agree, bit_at}
 use Rattle.flat.specs.Frames.{first, bit, flat_byte}
 
 -- the lowest bit of a number
 low : (x : ℕ) → bit (x % 2 == 1) ≡ x % 2
-low x = go (x % 2) (two (x % 2) (mod-lt x (lit< tt)))
-  where
-    two : (y : ℕ) → y < 2 → (y ≡ 0) ⊎ (y ≡ 1)
-    two y h = elim (dec_lt y 1) [ yes p ↦ inl (omega arith) | no p ↦ inr (omega arith) ]
-
-    go : (y : ℕ) → (y ≡ 0) ⊎ (y ≡ 1) → bit (y == 1) ≡ y
-    go y (inl p) = rw p refl
-    go y (inr p) = rw p refl
+low x = let h : x % 2 < 2 = omega arith in grind (arith, nat_tests)
 
 -- the top six bits of a byte spell a quarter of it
 pub spelt : (s : List ℕ) → slice_index s 0 < 256 → flat_byte (bit_at s) ≡ slice_index s 0 / 4
@@ -35,23 +28,14 @@ spelt s h = let x : ℕ = slice_index_or s 0 0 in sum x h (low (x / 128)) (low (
 
 -- bits 1 to 6 one by one
 six : (P : ℕ → Type 0) → P 1 → P 2 → P 3 → P 4 → P 5 → P 6 → (v : ℕ) → 1 ≤ v → v ≤ 6 → P v
-six P a b c d e f zero l h = absurd (omega arith)
-six P a b c d e f (suc zero) l h = a
-six P a b c d e f (suc (suc zero)) l h = b
-six P a b c d e f (suc (suc (suc zero))) l h = c
-six P a b c d e f (suc (suc (suc (suc zero)))) l h = d
-six P a b c d e f (suc (suc (suc (suc (suc zero))))) l h = e
-six P a b c d e f (suc (suc (suc (suc (suc (suc zero)))))) l h = f
-six P a b c d e f (suc (suc (suc (suc (suc (suc (suc v))))))) l h = absurd (omega arith)
+six P a b c d e f v l h = grind arith
 
 -- a bit is 0 or 1, and tells its truth value
 small : (b : Bool) → bit b ≤ 1
-small true = omega arith
-small false = omega arith
+small b = grind (arith, nat_tests)
 
 told : (b : Bool) (x : ℕ) → x ≡ bit b → (x == 1) ≡ b
-told true x e = rw e refl
-told false x e = rw e refl
+told b x e = grind (arith, nat_tests)
 
 -- the byte that six bits spell has those bits
 module _ (s : Bits) where
