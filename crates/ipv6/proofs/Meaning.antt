@@ -1,5 +1,5 @@
 -- What the rule of a line matches.
-use Rattle.std.proofs.Common.{◌≡◌, ℕ, List, length, take, drop, IfOk, Ok, Err, Result, sym, refl, ap, ◌∙◌, subst}
+use Rattle.std.proofs.Common.{◌≡◌, ℕ, List, length, take, drop, IfOk, Ok, Err, Result, sym, refl, ap, ◌∙◌}
 use Rattle.std.specs.Int.Digits.{number_from_digits}
 use Rattle.engine.specs.Ops.{bit_at}
 use Rattle.kind.specs.declared.rule.Rule.{Rule}

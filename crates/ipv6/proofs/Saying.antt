@@ -21,7 +21,6 @@ use Rattle.kind.specs.declared.fault.RuleFault.{RuleFault}
 use Rattle.kind.specs.declared.fault.RuleFault.TheVariants as fault
 use Rattle.kind.specs.Actions.{action_word, action_of}
 use Rattle.ipv6.specs.declared.said.Said.{Said}
-use Rattle.ipv6.specs.Rules.{rule_of}
 use Rattle.ipv6.specs.Lines.{port_at, given_port, port_of, said_of, parts_said, unless_fault, line_said, ruled, ipv6_rule}
 use Rattle.ipv6.specs.Grammar.{PortText, LineText, any_port, one_port, RuleText}
 use Rattle.ipv6.specs.Refusals.{fields, NoneEmpty, none, more, TwoOrThree, two, three, HasFields, RuleRefused, no_fields, no_action, no_prefix, no_port}

@@ -10,7 +10,6 @@ use Rattle.text.specs.Numerals.{decimal}
 use Rattle.text.proofs.Spelled.{decimal_to, decimal_from}
 use Rattle.kind.specs.declared.rule.Action.{Action}
 use Rattle.kind.specs.declared.rule.Action.TheVariants.{Block, Pass}
-use Rattle.kind.specs.declared.fault.PortFault.{PortFault}
 use Rattle.kind.specs.declared.fault.PortFault.TheVariants.{Number}
 use Rattle.kind.specs.Actions.{action_word, action_of}
 use Rattle.ipv6.specs.Lines.{port_or}

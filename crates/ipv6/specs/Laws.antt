@@ -1,5 +1,5 @@
 -- The law of the IPv6 kind.
-use Rattle.std.specs.Prelude.{◌≡◌, ℕ, ◌<◌, ◌≤◌, Bool, true, false, cond, List, ◌++◌, length, Ok, Err, Result, ◌==◌, refl}
+use Rattle.std.specs.Prelude.{◌≡◌, ℕ, ◌<◌, ◌≤◌, false, List, ◌++◌, length, Ok, Err, Result, refl}
 use Rattle.std.proofs.Common.{sym, ap, ◌∙◌, append-nil, arith, lit≤}
 use Rattle.std.proofs.lemmas.List.{at_drop_all}
 use Rattle.std.proofs.lemmas.Bool.{eq-eqb}
@@ -7,10 +7,8 @@ use Rattle.std.proofs.lemmas.Bool.Decides.{nat_tests}
 use Rattle.engine.specs.Ops.{bit_at}
 use Rattle.kind.specs.declared.rule.Rule.{Rule}
 use Rattle.kind.specs.declared.fault.RuleFault.{RuleFault}
-use Rattle.kind.specs.declared.fault.FrameFault.{FrameFault}
-use Rattle.kind.specs.declared.fault.FrameFault.TheVariants.{Wrong}
 use Rattle.kind.specs.Kinds.{Lawful, Bytes, over}
-use Rattle.bits.specs.Frames.{frame_of, value_bytes, care_bytes}
+use Rattle.bits.specs.Frames.{frame_of}
 use Rattle.bits.proofs.Bytes.{late}
 use Rattle.bits.proofs.Framing.{frame_length, frame_small, frame_only, frame_forth, frame_back}
 use Rattle.ipv6.specs.declared.said.Said.{Said}

@@ -1,5 +1,5 @@
-use Rattle.std.proofs.Common.{◌≡◌, Ok, ap, ◌∙◌, rules}
-use Rattle.ipv6.specs.Lines.{ruled, ipv6_rule}
+use Rattle.std.proofs.Common.{◌≡◌, Ok, rules}
+use Rattle.ipv6.specs.Lines.{ipv6_rule}
 use Rattle.ipv6.proofs.Saying.{accepts_rule}
 use Rattle.ipv6.proofs.Refusing.{refuses_rule}
 use Rattle.ipv6.proofs.Meaning.{rule_meant}
