@@ -88,6 +88,7 @@ impl Kind for FlatKind {
         }
     }
 
+    #[tactic(auto, using(crate::specs::Spelling::written))]
     fn back(&self, bits: &Assignment, place: &mut Assignment) {
         place[0] = bits[0] / 4;
     }

@@ -1,15 +1,14 @@
 -- The law of the IPv6 kind.
-use Rattle.std.specs.Prelude.{◌≡◌, ℕ, ◌<◌, ◌≤◌, Bool, true, false, cond, List, ◌++◌, length, Ok, Err, Result, ◌==◌, refl}
+use Rattle.std.specs.Prelude.{◌≡◌, ℕ, ◌<◌, ◌≤◌, false, List, ◌++◌, length, Ok, Err, Result, refl}
 use Rattle.std.proofs.Common.{sym, ap, ◌∙◌, append-nil, arith, lit≤}
 use Rattle.std.proofs.lemmas.List.{at_drop_all}
-use Rattle.std.proofs.lemmas.Bool.{eqb-true, eq-eqb}
+use Rattle.std.proofs.lemmas.Bool.{eq-eqb}
+use Rattle.std.proofs.lemmas.Bool.Decides.{nat_tests}
 use Rattle.engine.specs.Ops.{bit_at}
 use Rattle.kind.specs.declared.rule.Rule.{Rule}
 use Rattle.kind.specs.declared.fault.RuleFault.{RuleFault}
-use Rattle.kind.specs.declared.fault.FrameFault.{FrameFault}
-use Rattle.kind.specs.declared.fault.FrameFault.TheVariants.{Wrong}
 use Rattle.kind.specs.Kinds.{Lawful, Bytes, over}
-use Rattle.bits.specs.Frames.{frame_of, value_bytes, care_bytes}
+use Rattle.bits.specs.Frames.{frame_of}
 use Rattle.bits.proofs.Bytes.{late}
 use Rattle.bits.proofs.Framing.{frame_length, frame_small, frame_only, frame_forth, frame_back}
 use Rattle.ipv6.specs.declared.said.Said.{Said}
@@ -21,18 +20,14 @@ cares : (line : List ℕ) (r : Rule) → ipv6_rule line ≡ Ok r → (v : ℕ) �
 cares line r e v l = go (line_said line) e
   where
     go : (a : Result Said RuleFault) → ruled a ≡ Ok r → bit_at r.care v ≡ false
-    go (Err f) e = let z : ◌≡◌ {A = ℕ} 0 1 = cc in absurd (omega arith)
-    go (Ok s) e = let z : rule_of s ≡ r = cc in ap (λ (q : Rule). bit_at q.care v) (sym z) ∙ late 18 _ v l
+    go (Err f) e = cc
+    go (Ok s) e = let z : r ≡ rule_of s = cc in rw z (late 18 _ v l)
 
 turned : (frame s : List ℕ) → frame_bits frame ≡ Ok s → (length frame ≡ 18) × (frame ≡ s)
-turned frame s e = go (length frame == 18) refl e
-  where
-    go : (q : Bool) → (length frame == 18) ≡ q → ◌≡◌ {A = Result (List ℕ) FrameFault} (cond q (Ok frame) (Err Wrong)) (Ok s) → (length frame ≡ 18) × (frame ≡ s)
-    go true h k = (eqb-true (length frame) 18 h, cc)
-    go false h k = let z : ◌≡◌ {A = ℕ} 0 1 = cc in absurd (omega arith)
+turned frame s e = grind (arith, nat_tests)
 
 back : (frame s : List ℕ) → Bytes frame → frame_bits frame ≡ Ok s → frame_of (bit_at s) ≡ frame
-back frame s b e = let t = turned frame s e in ap (λ x. frame_of (bit_at x)) (sym t.1) ∙ frame_back frame t.0 b
+back frame s b e = let t = turned frame s e in rw (← t.1) (frame_back frame t.0 b)
 
 pub ipv6_lawful : Lawful ipv6
 ipv6_lawful = record {
@@ -43,13 +38,9 @@ ipv6_lawful = record {
   only = frame_only;
   sized = frame_length;
   whole = frame_small;
-  forth = λ s. (frame_of s, ap (λ q. cond q (Ok (frame_of s)) (Err Wrong)) (eq-eqb (length (frame_of s)) 18 (frame_length s)), frame_forth s);
+  forth = λ s. (frame_of s, rw (eq-eqb (length (frame_of s)) 18 (frame_length s)) refl, frame_forth s);
   back = back;
 }
-
--- a rule by its bits
-pub rule_is : (s : Said) (v k : List ℕ) → v ≡ value_bytes s.prefix.address s.port → k ≡ care_bytes s.prefix.length s.port → record { action = s.action; value = v; care = k } ≡ rule_of s
-rule_is s v k e f = rw (e, f) refl
 
 -- a place into which the bytes of some bits are copied holds their frame
 pub copied : (bits was place : List ℕ) → place ≡ bits → length bits ≡ 18 → length was ≤ 18 → Bytes bits → place ≡ over (frame_of (bit_at bits)) was

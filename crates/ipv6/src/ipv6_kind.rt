@@ -41,6 +41,7 @@ impl Kind for Ipv6Kind {
         Assignment::try_from(frame).map_err(|_| FrameFault::Wrong)
     }
 
+    #[tactic(auto, using(crate::specs::Laws::copied))]
     fn back(&self, bits: &Assignment, place: &mut Assignment) {
         let bytes = bits.as_slice();
         place.copy_from_slice(bytes);

@@ -62,6 +62,7 @@ impl fmt::Display for Action {
 }
 
 // A rule matches a frame exactly when they agree at every bit that counts.
+#[tactic(auto, using(crate::proofs::Matched::matching))]
 pub fn matching_stands()
     ensures { Matching }
 {}

@@ -1,5 +1,7 @@
 -- How lists of rules decide and judge frames, by tests and by relations.
-use Rattle.std.proofs.Common.{◌≡◌, ℕ, zero, suc, Bool, true, false, cond, List, [], ◌∷◌, sym, refl, ap, ◌∙◌, arith}
+use Rattle.std.proofs.Common.{◌≡◌, ℕ, zero, suc, Bool, false, cond, List, [], ◌∷◌, sym, refl, ap, ◌∙◌, arith}
+use Rattle.std.proofs.lemmas.Bool.{cond_both, false_from_ne_true}
+use Rattle.std.proofs.lemmas.Bool.Decides.{not_from_Decides}
 use Rattle.engine.specs.Ops.{Bits, Agree}
 use Rattle.kind.specs.declared.rule.Rule.{Rule}
 use Rattle.kind.specs.declared.rule.Action.{Action}
@@ -11,19 +13,11 @@ use Rattle.filter.specs.Books.{Books}
 use Rattle.filter.specs.Calls.{verdict}
 use Rattle.run.specs.Law.{Decides, Judges, JudgedOnce, SameAt}
 
--- a test that is both
-pub split : true ≡ false → ⊥
-split e = let z : ◌≡◌ {A = ℕ} 0 1 = cc in omega arith
-
 missed : (n : ℕ) (r : Rule) (s : Bits) → matches n r s ≡ false → Matches n r s → ⊥
-missed n r s h m = split (sym ((matching n r s).1 m) ∙ h)
+missed n r s = not_from_Decides (matches n r s) (matching n r s)
 
 not_matched : (n : ℕ) (r : Rule) (s : Bits) → (Matches n r s → ⊥) → matches n r s ≡ false
-not_matched n r s h = go (matches n r s) refl
-  where
-    go : (b : Bool) → matches n r s ≡ b → matches n r s ≡ false
-    go true e = absurd (h ((matching n r s).0 e))
-    go false e = e
+not_matched n r s h = false_from_ne_true (matches n r s) (λ e. h ((matching n r s).0 e))
 
 pub decides_so : (n : ℕ) (rs : List Rule) (i : ℕ) (s : Bits) → DecidesBy n rs i s → Decides n rs i s
 decides_so n [] i s d = d
@@ -37,7 +31,7 @@ so_decides n (r ∷ rs) (suc i) s d = (not_matched n r s d.0, so_decides n rs i 
 
 -- only bits 1 to n matter
 matches_local : (n : ℕ) (r : Rule) (s t : Bits) → Agree n s t → Matches n r s → Matches n r t
-matches_local n r s t a m v l h c = sym (a v l h) ∙ m v l h c
+matches_local n r s t a m v l h c = cc (a v l h, m v l h c)
 
 pub decides_local : (n : ℕ) (rs : List Rule) (i : ℕ) (s t : Bits) → Agree n s t → Decides n rs i s → Decides n rs i t
 decides_local n [] i s t a d = d
@@ -51,32 +45,23 @@ named Pass = refl
 -- a list judges as its verdict says
 pub judges : (n : ℕ) (rs : List Rule) (s : Bits) → Judges n rs s (verdict n rs s)
 judges n [] s = refl
-judges n (r ∷ rs) s = (
-  λ m. ap (λ (b : Bool). cond (cond b (blocks r.action) (judged n rs s)) Block Pass) ((matching n r s).1 m) ∙ named r.action,
-  λ m. rw (not_matched n r s m) (judges n rs s),
-)
+judges n (r ∷ rs) s = (λ m. rw ((matching n r s).1 m) (named r.action), λ m. rw (not_matched n r s m) (judges n rs s))
 
 -- and in no other way
 pub judges_only : (n : ℕ) (rs : List Rule) (s : Bits) (x : Action) → Judges n rs s x → x ≡ verdict n rs s
 judges_only n [] s x j = j
-judges_only n (r ∷ rs) s x j = go (λ h. judges_only n rs s x (j.1 h)) (matches n r s) refl
-  where
-    go : ((Matches n r s → ⊥) → x ≡ verdict n rs s) → (b : Bool) → matches n r s ≡ b → x ≡ cond (cond (matches n r s) (blocks r.action) (judged n rs s)) Block Pass
-    go later true e = j.0 ((matching n r s).0 e) ∙ sym (named r.action) ∙ ap (λ (b : Bool). cond (cond b (blocks r.action) (judged n rs s)) Block Pass) (sym e)
-    go later false e = later (missed n r s e) ∙ ap (λ (b : Bool). cond (cond b (blocks r.action) (judged n rs s)) Block Pass) (sym e)
+judges_only n (r ∷ rs) s x j =
+    cond_both (matches n r s) (blocks r.action) (judged n rs s) (λ (b : Bool). x ≡ cond b Block Pass) (λ e. j.0 ((matching n r s).0 e) ∙ sym (named r.action)) (λ e. judges_only n rs s x (j.1 (missed n r s e)))
 
 pub judged_once : JudgedOnce
-judged_once n rs s = (verdict n rs s, judges n rs s, λ y j. judges_only n rs s y j)
+judged_once n rs s = (verdict n rs s, judges n rs s, judges_only n rs s)
 
 verdict_same : (a b : Bool) → cond a Block Pass ≡ cond b Block Pass → a ≡ b
-verdict_same true true e = refl
-verdict_same true false e = let z : ◌≡◌ {A = ℕ} 0 1 = cc in absurd (omega arith)
-verdict_same false true e = let z : ◌≡◌ {A = ℕ} 0 1 = cc in absurd (omega arith)
-verdict_same false false e = refl
+verdict_same a b e = grind arith
 
 -- books that block alike judge alike, and the other way round
 pub same_at : (n : ℕ) (b : Books) (s : Bits) → judged n b.live s ≡ judged n b.draft s → SameAt n b s
 same_at n b s e x y p q = judges_only n b.live s x p ∙ ap (λ (z : Bool). cond z Block Pass) e ∙ sym (judges_only n b.draft s y q)
 
 pub at_same : (n : ℕ) (b : Books) (s : Bits) → SameAt n b s → judged n b.live s ≡ judged n b.draft s
-at_same n b s h = verdict_same (judged n b.live s) (judged n b.draft s) (h (verdict n b.live s) (verdict n b.draft s) (judges n b.live s) (judges n b.draft s))
+at_same n b s h = verdict_same (judged n b.live s) (judged n b.draft s) (h _ _ (judges n b.live s) (judges n b.draft s))

@@ -1,7 +1,6 @@
 -- What the filter's answers tell, over frames.
 use Rattle.std.proofs.Common.{◌≡◌, ℕ, ◌<◌, ◌≤◌, Bool, List, [], ◌∷◌, ◌++◌, length, replicate, Some, None, Ok, Option, sym, ◌∙◌, inl, inr, arith}
-use native.Mathlib.Decide.{dec_lt}
-use Rattle.engine.specs.Ops.{Bits, Agree, bit_at, spelt}
+use Rattle.engine.specs.Ops.{Bits, Agree, bit_at}
 use Rattle.engine.specs.Does.{Says}
 use Rattle.kind.specs.declared.rule.Rule.{Rule}
 use Rattle.kind.specs.Kinds.{Reading, Lawful}
@@ -34,7 +33,7 @@ module _ (k : Reading) (law : Lawful k) where
     bits = there.0;
     taken = (law.whole p.bits, there.1);
     differs = λ same. p.least.differ (judged_local k.bits b.live p.bits (bit_at there.0) back ∙ at_same k.bits b (bit_at there.0) same ∙ sym (judged_local k.bits b.draft p.bits (bit_at there.0) back));
-    least = λ f t frame apart. above (spelt k.bits (bit_at there.0)) (spelt k.bits (bit_at t)) (λ less. p.least.least (bit_at t) (λ e. apart (same_at k.bits b (bit_at t) e)) (below (bit_at t) (number_below k.bits (bit_at t) (bit_at there.0) less)));
+    least = λ f t frame apart. not_less (λ less. p.least.least (bit_at t) (λ e. apart (same_at k.bits b (bit_at t) e)) (below (bit_at t) (number_below k.bits (bit_at t) (bit_at there.0) less)));
     answer = p.answer;
   }
     where
@@ -45,13 +44,10 @@ module _ (k : Reading) (law : Lawful k) where
       back v l h = sym (there.2 v l h)
 
       below : (t : Bits) → Below k.bits t (bit_at there.0) → Below k.bits t p.bits
-      below t b = record { at = b.at; from = b.from; to = b.to; before = λ u l h. b.before u l h ∙ there.2 u l (le u b.at k.bits h b.to); low = b.low; high = back b.at b.from b.to ∙ b.high }
-        where
-          le : (w a n : ℕ) → w < a → a ≤ n → w ≤ n
-          le w a n x y = omega arith
+      below t b = record { at = b.at; from = b.from; to = b.to; before = λ u l h. b.before u l h ∙ there.2 u l (omega arith); low = b.low; high = back b.at b.from b.to ∙ b.high }
 
-      above : (x y : ℕ) → (y < x → ⊥) → x ≤ y
-      above x y h = elim (dec_lt y x) [ yes q ↦ absurd (h q) | no q ↦ omega arith ]
+      not_less : {x y : ℕ} → (y < x → ⊥) → x ≤ y
+      not_less h = omega arith
 
   told : (b : Books) (c : Call) (a : Answer) → filter.Fair k b (asked c) a → Told k b c a
   told b (Add line) a (inl p) = inl record { rule = p.rule; read = p.read; told = p.told; answer = p.answer; place = p.number; idle = none_so (b.draft ++ (p.rule ∷ [])) (length b.draft) p.told.idle p.idle }

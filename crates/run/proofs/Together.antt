@@ -1,49 +1,38 @@
 -- The law leaves one answer to each call, but for want of room.
-use Rattle.std.proofs.Common.{◌≡◌, ℕ, ◌≤◌, false, List, [], ◌∷◌, ◌++◌, length, replicate, Some, None, Ok, Option, Result, sym, ap, ◌∙◌, subst, inl, inr, arith}
-use Rattle.engine.specs.Ops.{Agree, bit_at, spelt}
-use Rattle.engine.specs.Does.{Says}
+use Rattle.std.proofs.Common.{◌≡◌, ℕ, true, false, List, [], ◌∷◌, ◌++◌, length, Some, None, Option, sym, ap, ◌∙◌, subst, inl, inr, arith}
+use Rattle.engine.specs.Ops.{Agree, bit_at}
 use Rattle.kind.specs.declared.rule.Rule.{Rule}
-use Rattle.kind.specs.declared.rule.Action.{Action}
-use Rattle.kind.specs.Kinds.{Reading, Lawful, over}
+use Rattle.kind.specs.Kinds.{Reading, Lawful}
 use Rattle.search.proofs.Picks.{same_says}
-use Rattle.filter.specs.declared.answer.Reply.TheVariants.{Added, Verdict, Differs}
 use Rattle.filter.specs.declared.fault.FilterFault.{FilterFault}
-use Rattle.filter.specs.declared.answer.Added.{Added as Done}
 use Rattle.filter.specs.Answers.{Answer}
 use Rattle.filter.specs.Books.{Books}
-use Rattle.filter.specs.Calls.{refusal, drawn, verdict, no_room}
+use Rattle.filter.specs.Calls.{refusal, drawn, no_room}
 use Rattle.run.specs.declared.call.Call.{Call}
 use Rattle.run.specs.declared.call.Call.TheVariants.{Add, Withdraw, Commit, Judge, Compare}
 use Rattle.run.specs.Calls.{asked}
 use Rattle.run.specs.Law.{Frame, Decides, Shows, Told, Answers, Holds, Together, lacks}
-use Rattle.run.proofs.Judging.{split, judges_only}
+use Rattle.run.proofs.Judging.{judges_only}
 use Rattle.run.proofs.Numbers.{number_same}
 
 lacking : (a : Answer) → a ≡ no_room → lacks a ≡ false → ⊥
-lacking a e h = split (sym (ap lacks e) ∙ h)
-
-same_ok : {A E : Type 0} (r : Result A E) (x y : A) → r ≡ Ok x → r ≡ Ok y → x ≡ y
-same_ok r x y p q = cc
+lacking a e h = let z : true ≡ false = sym (ap lacks e) ∙ h in cc
 
 module _ (k : Reading) (law : Lawful k) where
   -- two frames with the least number are one
   same_frame : (b : Books) (a z : Answer) (p : Shows k b a) (q : Shows k b z) → p.frame ≡ q.frame
   same_frame b a z p q = sym (law.back p.frame p.bits p.taken.0 p.taken.1) ∙ law.only (bit_at p.bits) (bit_at q.bits) bits ∙ law.back q.frame q.bits q.taken.0 q.taken.1
     where
-      equal : (x y : ℕ) → x ≤ y → y ≤ x → x ≡ y
-      equal x y h l = omega arith
-
       bits : Agree k.bits (bit_at p.bits) (bit_at q.bits)
-      bits = number_same k.bits (bit_at p.bits) (bit_at q.bits) (equal (spelt k.bits (bit_at p.bits)) (spelt k.bits (bit_at q.bits)) (p.least q.frame q.bits q.taken q.differs) (q.least p.frame p.bits p.taken p.differs))
+      bits = number_same k.bits (bit_at p.bits) (bit_at q.bits) (omega (arith, p.least q.frame q.bits q.taken q.differs, q.least p.frame p.bits p.taken p.differs))
 
   same_told : (b : Books) (c : Call) (a z : Answer) → Told k b c a → Told k b c z → lacks a ≡ false → lacks z ≡ false → a ≡ z
   same_told b (Add line) a z (inl p) (inl q) u v =
-      let rule : p.rule ≡ q.rule = same_ok (k.reads line.now) p.rule q.rule p.read q.read in
+      let rule : p.rule ≡ q.rule = cc in
       let P : Rule → Type 0 = λ r. (f t : List ℕ) → Frame k f t → Decides k.bits (b.draft ++ (r ∷ [])) (length b.draft) (bit_at t) → ⊥ in
-      let idle : p.told.idle ≡ q.told.idle = same_says p.told.idle q.told.idle (P q.rule) (subst (λ (r : Rule). Says p.told.idle (P r)) rule p.idle) q.idle in
-      let place : p.told.number ≡ q.told.number = p.place ∙ sym q.place in
-      let told : p.told ≡ q.told = λ j. record { number = place j; idle = idle j } in
-      p.answer ∙ ap (λ (x : Done). Ok (Added x)) told ∙ sym q.answer
+      let idle : p.told.idle ≡ q.told.idle = same_says p.told.idle q.told.idle (P q.rule) (rw rule at p.idle) q.idle in
+      let told : p.told ≡ q.told = λ j. record { number = (p.place ∙ sym q.place) j; idle = idle j } in
+      cc
   same_told b (Add line) a z (inl p) (inr q) u v = absurd (lacking z q v)
   same_told b (Add line) a z (inr p) q u v = absurd (lacking a p u)
   same_told b (Withdraw i) a z (inl p) (inl q) u v = p ∙ sym q
@@ -51,14 +40,14 @@ module _ (k : Reading) (law : Lawful k) where
   same_told b (Withdraw i) a z (inr p) q u v = absurd (lacking a p u)
   same_told b Commit a z p q u v = p ∙ sym q
   same_told b (Judge frame) a z p q u v =
-      let bits : p.bits ≡ q.bits = same_ok (k.turns frame.now) p.bits q.bits p.turned q.turned in
-      let action : p.action ≡ q.action = judges_only k.bits b.live (bit_at p.bits) p.action p.judged ∙ ap (λ (s : List ℕ). verdict k.bits b.live (bit_at s)) bits ∙ sym (judges_only k.bits b.live (bit_at q.bits) q.action q.judged) in
-      p.answer ∙ ap (λ (x : Action). Ok (Verdict x)) action ∙ sym q.answer
-  same_told b Compare a z (inl p) (inl q) u v = p.answer ∙ sym q.answer
+      let bits : p.bits ≡ q.bits = cc in
+      let action : p.action ≡ q.action = judges_only k.bits b.live (bit_at p.bits) p.action p.judged ∙ sym (judges_only k.bits b.live (bit_at p.bits) q.action (rw (← bits) at q.judged)) in
+      cc
+  same_told b Compare a z (inl p) (inl q) u v = cc
   same_told b Compare a z (inl p) (inr (inl q)) u v = absurd (q.differs (p.same q.frame q.bits q.taken))
   same_told b Compare a z (inl p) (inr (inr q)) u v = absurd (lacking z q v)
   same_told b Compare a z (inr (inl p)) (inl q) u v = absurd (p.differs (q.same p.frame p.bits p.taken))
-  same_told b Compare a z (inr (inl p)) (inr (inl q)) u v = p.answer ∙ ap (λ (f : List ℕ). Ok (Differs (over f (replicate 18 0)))) (same_frame b a z p q) ∙ sym q.answer
+  same_told b Compare a z (inr (inl p)) (inr (inl q)) u v = let frame = same_frame b a z p q in cc
   same_told b Compare a z (inr (inl p)) (inr (inr q)) u v = absurd (lacking z q v)
   same_told b Compare a z (inr (inr p)) q u v = absurd (lacking a p u)
 

@@ -45,6 +45,7 @@ pub fn run_both<K: Kind + Copy, E: DecidingEngine + Drop, F: DecidingEngine + Dr
 }
 
 // Every frame is judged in just one way.
+#[tactic(auto, using(crate::proofs::Judging::judged_once))]
 pub fn judging_stands()
     ensures { JudgedOnce }
 {}

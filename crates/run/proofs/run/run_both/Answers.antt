@@ -1,6 +1,5 @@
-use Rattle.std.proofs.Common.{ℕ, vec_items, sym, ◌∙◌, subst}
+use Rattle.std.proofs.Common.{sym, ◌∙◌}
 use Rattle.filter.specs.Books.{no_rules}
-use Rattle.run.specs.Law.{Holds}
 use Rattle.run.proofs.Together.{together}
 use Rattle.run.proofs.run.run_both.Goals as goal
 
@@ -10,5 +9,5 @@ returns g c =
     let two = c.in_ok-second.ensures.law in (
       one,
       two,
-      λ e f. together g.K.Kind.reading g.met.K.Kind.lawful _ no_rules c.args.calls.now _ _ one (subst (λ (n : ℕ). Holds g.K.Kind.reading n no_rules c.args.calls.now (vec_items c.in_ok-second.second)) (f ∙ sym e) two),
+      λ e f. together g.K.Kind.reading g.met.K.Kind.lawful _ no_rules c.args.calls.now _ _ one (rw (f ∙ sym e) at two),
     )
