@@ -14,7 +14,8 @@ use Rattle.kind.specs.declared.fault.FrameFault.{FrameFault}
 use Rattle.kind.specs.declared.fault.FrameFault.TheVariants.{Wrong}
 use Rattle.kind.specs.Actions.{action_of}
 use Rattle.kind.specs.Kinds.{Lawful, Bytes}
-use Rattle.flat.specs.Picks.{Pick, pick_of, counted}
+use Rattle.flat.specs.declared.pick.Pick.{Pick}
+use Rattle.flat.specs.Picks.{pick_of, counted}
 use Rattle.flat.specs.Frames.{first, frame_bits, flat_byte}
 use Rattle.flat.specs.Lines.{rule_of, ruled, with_third, unless_fault, flat_rule}
 use Rattle.flat.specs.Reading.{flat}

@@ -17,7 +17,7 @@ pub struct Session {
 
 // A flat filter on a word engine of so many variables, the kind's where no number is given.
 fn new_filter(n: Option<usize>) -> Filter<FlatKind, WordEngine> {
-    let n = n.map_or(FlatKind.bits(), |n| n.min(255) as u8);
+    let n = n.map_or(FlatKind.bits(), |n| u8::try_from(n).unwrap_or(u8::MAX));
     Filter::new(FlatKind, WordEngine::new(n))
 }
 
@@ -26,12 +26,23 @@ fn refuse(rt: &HostRuntime) -> io::Result<()> {
     println!(rt; "bad command")
 }
 
-// The rule of a line that is given in hexadecimal.
-fn read(rt: &HostRuntime, text: &[u8]) -> io::Result<()> {
-    let Some(line) = decode(rt.alloc(), text)? else {
-        return refuse(rt);
-    };
-    match FlatKind.read(line.as_slice()) {
+// What is done with the bytes of hexadecimal text; other text is refused.
+fn decoded<F: FnOnce(&[u8]) -> io::Result<()>>(
+    rt: &HostRuntime,
+    text: &[u8],
+    act: F,
+) -> io::Result<()>
+    requires { F.IsAlwaysCallable act }
+{
+    match decode(rt.alloc(), text)? {
+        Some(bytes) => act(bytes.as_slice()),
+        None => refuse(rt),
+    }
+}
+
+// The rule of a line.
+fn read(rt: &HostRuntime, line: &[u8]) -> io::Result<()> {
+    match FlatKind.read(line) {
         Ok(rule) => println!(rt; "{}", Bits(rule)),
         Err(fault) => println!(rt; "{}", Refusal(fault.into())),
     }
@@ -58,33 +69,22 @@ impl Session {
         )
     }
 
-    // A line that is given in hexadecimal is added.
-    fn add_hex(&mut self, rt: &HostRuntime, text: &[u8]) -> io::Result<()> {
-        match decode(rt.alloc(), text)? {
-            Some(line) => self.ask(rt, &Call::Add(line.as_slice())),
-            None => refuse(rt),
-        }
-    }
-
-    // kept: beside `add_hex`, since other text is no command there and no frame here
     // A frame that is given in hexadecimal is judged; other text is no frame.
     fn judge(&mut self, rt: &HostRuntime, text: &[u8]) -> io::Result<()> {
-        match decode(rt.alloc(), text)? {
-            Some(frame) => self.ask(rt, &Call::Judge(frame.as_slice())),
-            None => self.ask(rt, &Call::Judge(&[])),
-        }
+        let frame = decode(rt.alloc(), text)?;
+        self.ask(rt, &Call::Judge(frame.as_deref().unwrap_or_default()))
     }
 
     // A command is carried out, and its answer printed.
     fn carry_out(&mut self, rt: &HostRuntime, command: Command) -> io::Result<()> {
         match command {
-            Command::Read(text) => read(rt, text),
+            Command::Read(text) => decoded(rt, text, |line| read(rt, line)),
             Command::Flat(n) => {
                 self.filter = Some(new_filter(n));
                 println!(rt; "ready")
             }
             Command::Add(line) => self.ask(rt, &Call::Add(line)),
-            Command::AddHex(text) => self.add_hex(rt, text),
+            Command::AddHex(text) => decoded(rt, text, |line| self.ask(rt, &Call::Add(line))),
             Command::Judge(text) => self.judge(rt, text),
             Command::Withdraw(number) => self.ask(rt, &Call::Withdraw(number)),
             Command::Commit => self.ask(rt, &Call::Commit),
