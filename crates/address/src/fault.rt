@@ -61,9 +61,9 @@ impl AddressFault {
         ensures { result ≡ address_place self }
     {
         match self {
-            AddressFault::Group(GroupFault::Piece(at))
-            | AddressFault::Count(at)
-            | AddressFault::Prefix(PrefixFault::Length(at) | PrefixFault::Stray(at)) => at,
+            AddressFault::Group(GroupFault::Piece(at)) => at,
+            AddressFault::Count(at) => at,
+            AddressFault::Prefix(PrefixFault::Length(at) | PrefixFault::Stray(at)) => at,
         }
     }
 
