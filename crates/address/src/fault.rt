@@ -26,7 +26,6 @@ pub enum AddressFault {
     Prefix(PrefixFault),
 }
 
-// kept: a derived From has no contract
 impl From<GroupFault> for AddressFault {
     ghost from_gives = { λ e b. b ≡ AddressFault.Group e };
 
@@ -35,7 +34,6 @@ impl From<GroupFault> for AddressFault {
     }
 }
 
-// kept: a derived From has no contract
 impl From<PrefixFault> for AddressFault {
     ghost from_gives = { λ e b. b ≡ AddressFault.Prefix e };
 
@@ -45,7 +43,7 @@ impl From<PrefixFault> for AddressFault {
 }
 
 impl AddressFault {
-    // kept: `number` and `place` name which fact of a fault they give; a From<..> for u8 would not
+    // kept: a refusal is printed by number and place, and `number` names which of them it gives; a From for u8 would not
     // The fault's number.
     pub fn number(self) -> u8
         ensures { result ≡ address_number self }
@@ -65,8 +63,7 @@ impl AddressFault {
         match self {
             AddressFault::Group(GroupFault::Piece(at)) => at,
             AddressFault::Count(at) => at,
-            AddressFault::Prefix(PrefixFault::Length(at)) => at,
-            AddressFault::Prefix(PrefixFault::Stray(at)) => at,
+            AddressFault::Prefix(PrefixFault::Length(at) | PrefixFault::Stray(at)) => at,
         }
     }
 

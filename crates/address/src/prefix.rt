@@ -42,7 +42,7 @@ impl Length {
         }
     }
 
-    // The bits of an address past its first ones, which are as many, as a number.
+    // The bits of an address past its first `bits`, as a number.
     fn bits_past(self, address: u128) -> u128
         ensures { result ≡ bits_past_of self.bits address }
     {
@@ -97,6 +97,7 @@ impl Prefix {
         Prefix::read_sized(&text[..slash], digits)
     }
 
+    // kept: its three clauses have names; `try_from` would have one relation for them
     // The prefix that a field says. It is accepted exactly if it is prefix text.
     pub fn read(field: Field<'_>) -> Result<Prefix, AddressFault>
         ensures value { result ≡ in_line field.entry.place (prefix field.entry.text.now) }

@@ -1,3 +1,4 @@
+pub use Rattle.diagram.specs.Shapes.{Deep}
 use Rattle.std.proofs.Common.{◌≡◌, ℕ, zero, suc, ◌+◌, ◌-◌, ◌<◌, ◌≤◌, Bool, true, false, eqb, ltb, ℤ, pos, nat_abs, refl, subst, not-suc-le-zero, arith}
 use lib.Signed.{lt_z}
 use Rattle.std.proofs.lemmas.Bool.{ltb-true, ltb-false}
@@ -5,7 +6,6 @@ use Rattle.diagram.specs.Diagrams.{Diagram, top, bottom, node, level, ordered, M
 use Rattle.diagram.specs.Rules.{negate}
 use Rattle.diagram.specs.Fix.{turn, fix_here, fix_parts, fix_node, fix}
 use Rattle.diagram.specs.Meet.{meet, meet_within, meet_step, nodes_step, under, under_negative, under_positive, nand, without, minus, either, level_with, both_negative, both_positive, opposite}
-pub use Rattle.diagram.specs.Shapes.{Deep}
 use Rattle.diagram.proofs.Rewrites.{Rising, rising, negate_level}
 use Rattle.diagram.proofs.Goods.{Over, over_negate, over_met, depth, meet_good, negate_fine, good_reduce, Met}
 
@@ -192,3 +192,22 @@ fix_fine n v bit (node x a b c) o =
     go false t fa fb fc da db dc =
         let g = good_reduce n x fa.it fb.it fc.it r.first r.last (over a _ r.low da) (over b _ r.high db) (over c _ r.rest dc) in
         unfold fix_parts in record { fine = g.fine; past = g.past }
+
+pub deep_nand : (n y : ℕ) (d e : Diagram) → Deep n y d → Deep n y e → Deep n y (nand (meet n) d e).it
+unfolding nand
+deep_nand n y d e p q = deep_negate n y _ (deep_meet n y d e p q)
+
+pub deep_without : (n y : ℕ) (d e : Diagram) → Deep n y d → Deep n y e → Deep n y (without (meet n) d e).it
+unfolding without
+deep_without n y d e p q = deep_nand n y _ e (deep_negate n y d p) q
+
+pub deep_minus : (n y : ℕ) (a d e : Diagram) → Deep n y a → Deep n y d → Deep n y e → Deep n y (minus (meet n) a d e).it
+unfolding minus
+deep_minus n y a d e o p q = deep_meet n y a _ o (deep_nand n y d e p q)
+
+pub deep_either : (n y : ℕ) (a c d e : Diagram) → Deep n y a → Deep n y c → Deep n y d → Deep n y e → Deep n y (either (meet n) a c d e).it
+unfolding either
+deep_either n y a c d e o o' p q = deep_nand n y _ _ (deep_nand n y a c o o') (deep_nand n y d e p q)
+
+pub deep_fix : (n v y : ℕ) (bit : Bool) (d : Diagram) → Deep n y d → Deep n y (fix n v bit d).it
+deep_fix n v y bit d p = let f = fix_fine n v bit d p.fine in record { fine = f.fine; past = omega (arith, p.past, f.past) }

@@ -1,4 +1,5 @@
 pub mod Same
+pub mod Counts
 pub mod Rewrites
 pub mod Goods
 pub mod Laws

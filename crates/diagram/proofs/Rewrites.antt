@@ -289,3 +289,8 @@ pub law_10 : (x : ℤ) (a b c : Diagram) → rule x a b c ≡ Some Ten → reduc
 law_10 x a b c e =
     law x a b c (Some Ten) e
     ∙ ap (after (negate a).formed) (positive 6 (neg_ℤ x) (plain (negate a).it) -τ τ (part (negate a).it) (part bottom) (part top) (neg_negative x (said x a b c (Some Ten) e).0) refl refl refl)
+
+-- the sign bears on no order
+pub order_neg : (n : ℕ) (x : ℤ) (a b c : Diagram) → ordered n (node x a b c) ≡ true → ordered n (node (neg_ℤ x) a b c) ≡ true
+unfolding ordered
+order_neg n x a b c o = rw nat_abs_neg o

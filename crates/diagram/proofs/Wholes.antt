@@ -1,8 +1,8 @@
 -- Ordered and reduced diagrams give and form ordered and reduced diagrams.
-use Rattle.std.proofs.Common.{Some, None, Option, ◌≡◌, ℕ, zero, suc, ◌+◌, ◌<◌, ◌≤◌, Bool, true, false, cond, List, [], ◌∷◌, ◌++◌, ℤ, pos, neg_ℤ, nat_abs, refl, ap, not-suc-le-zero, arith}
+use Rattle.std.proofs.Common.{Some, None, Option, ◌≡◌, ℕ, zero, suc, ◌+◌, ◌<◌, ◌≤◌, Bool, true, false, cond, List, [], ◌∷◌, ◌++◌, ℤ, pos, neg_ℤ, nat_abs, refl, ap, not-suc-le-zero, arith, ◌⊎◌, subst, inl, inr}
 use lib.Signed.{lt_z}
-use Rattle.std.proofs.lemmas.Bool.{and_parts, and_from, false≢true}
-use Rattle.diagram.specs.Diagrams.{Diagram, top, bottom, node, ordered, Made}
+use Rattle.std.proofs.lemmas.Bool.{and_parts, and_from, false≢true, or_cases}
+use Rattle.diagram.specs.Diagrams.{Diagram, top, bottom, node, ordered, Made, same, has}
 use Rattle.diagram.specs.Rules.{Part, τ, -τ, plain, listed, signed, after, rule, apply, rewrite, negate, part, reduce}
 use Rattle.diagram.specs.Reduced.{stops, reduced, proper, all_proper}
 use Rattle.diagram.specs.Shapes.{Whole, Well}
@@ -11,6 +11,7 @@ use Rattle.diagram.specs.declared.rule.Rule.TheVariants.{One, Two, Three, Four, 
 use Rattle.diagram.proofs.Rewrites.{Says, said, rank, rank_small, falls_5, falls_6, falls_7, falls_8, falls_9, falls_10, rising, order, nat_abs_neg}
 use Rattle.diagram.proofs.Goods.{Over, over_negate, good_reduce}
 use Rattle.diagram.proofs.Laws.{deep_negate}
+use Rattle.diagram.proofs.Same.{same_true}
 
 -- lists
 pub all_append : (n : ℕ) (xs ys : List Diagram) → all_proper n xs ≡ true → all_proper n ys ≡ true → all_proper n (xs ++ ys) ≡ true
@@ -169,3 +170,15 @@ well_reduce n x a b c z l wa wb wc =
 
     kept : (d : Diagram) → Whole n (nat_abs x + 1) d → Kept n x (part d)
     kept d w = kept_part n x d (over d w) w.rests (negate_rests n d w.deep.fine w.rests)
+
+-- what stands in a list of ordered and reduced diagrams is one
+pub all_has : (n : ℕ) (ds : List Diagram) (d : Diagram) → all_proper n ds ≡ true → has ds d ≡ true → proper n d ≡ true
+unfolding all_proper has
+all_has n [] d p h = absurd (false≢true h)
+all_has n (e ∷ es) d p h =
+    let q = and_parts (proper n e) (all_proper n es) p in
+    go q.0 (or_cases (same e d) (has es d) h) (all_has n es d q.1)
+  where
+    go : proper n e ≡ true → (same e d ≡ true) ⊎ (has es d ≡ true) → (has es d ≡ true → proper n d ≡ true) → proper n d ≡ true
+    go p (inl s) r = subst (λ (v : Diagram). proper n v ≡ true) (same_true e d s) p
+    go p (inr k) r = r k

@@ -13,7 +13,7 @@ pub enum EngineFault {
 }
 
 impl EngineFault {
-    // kept: `number` names which fact of a fault it gives; a From<..> for u8 would not
+    // kept: a refusal is printed by number and place, and `number` names which of them it gives; a From for u8 would not
     // The fault's number.
     pub fn number(self) -> u8
         ensures { result ≡ fault_number self }

@@ -9,6 +9,7 @@ pub struct Added {
     pub idle: bool,
 }
 
+// kept: no Option of a frame, since the frame goes into the caller's place, whose other bytes stay
 // What the two books do with all frames.
 #[derive(Clone, Copy, Debug, PartialEq, Eq)]
 pub enum Comparison {

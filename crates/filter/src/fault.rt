@@ -19,7 +19,6 @@ pub enum FilterFault {
     Missing,
 }
 
-// kept: a derived From has no contract
 impl From<RuleFault> for FilterFault {
     ghost from_gives = { λ e b. b ≡ FilterFault.Rule e };
 
@@ -28,7 +27,6 @@ impl From<RuleFault> for FilterFault {
     }
 }
 
-// kept: a derived From has no contract
 impl From<FrameFault> for FilterFault {
     ghost from_gives = { λ e b. b ≡ FilterFault.Frame e };
 
@@ -37,7 +35,6 @@ impl From<FrameFault> for FilterFault {
     }
 }
 
-// kept: a derived From has no contract
 impl From<EngineFault> for FilterFault {
     ghost from_gives = { λ e b. b ≡ FilterFault.Engine e };
 
@@ -47,7 +44,7 @@ impl From<EngineFault> for FilterFault {
 }
 
 impl FilterFault {
-    // kept: `number` and `place` name which fact of a fault they give; a From<..> for u8 would not
+    // kept: a refusal is printed by number and place, and `number` names which of them it gives; a From for u8 would not
     // The fault's number.
     pub fn number(self) -> u8
         ensures { result ≡ filter_number self }
@@ -62,6 +59,7 @@ impl FilterFault {
         }
     }
 
+    // kept: a refusal without a place is printed with place 0
     // The fault's place in its line, counted in bytes from 0; 0 where it has none.
     pub fn place(self) -> usize
         ensures { result ≡ filter_place self }

@@ -1,9 +1,8 @@
 -- The law of the flat kind.
-use Rattle.std.specs.Prelude.{◌≡◌, ℕ, zero, suc, ◌+◌, ◌-◌, ◌*◌, ◌/◌, ◌%◌, ◌^◌, ◌<◌, Bool, true, false, cond, ◌⊎◌, List, [], ◌∷◌, length, replicate, Some, None, Ok, Err, Option, Result, ◌==◌, nat_eq, nat_lt, slice_index, refl}
-use Rattle.std.proofs.Common.{sym, ap, ◌∙◌, inl, inr, arith, lit<, lit≤}
-use Rattle.std.proofs.Math.Decide.{dec_lt}
+use Rattle.std.specs.Prelude.{◌≡◌, ℕ, zero, suc, ◌+◌, ◌-◌, ◌*◌, ◌/◌, ◌%◌, ◌^◌, ◌<◌, ◌≤◌, Bool, true, false, cond, ◌⊎◌, List, [], ◌∷◌, length, replicate, Some, None, Ok, Err, Option, Result, ◌==◌, nat_lt, slice_index, refl}
+use Rattle.std.proofs.Common.{ap, ◌∙◌, inl, inr, arith, lit<, lit≤}
 use Rattle.std.proofs.Math.Nat.{zero-div}
-use Rattle.std.proofs.lemmas.Bool.{lt-ltb, ltb-true}
+use Rattle.std.proofs.lemmas.Bool.{cases_lt, lt-ltb, ltb-true}
 use Rattle.engine.specs.Ops.{Bits, Agree, bit_at}
 use Rattle.text.specs.declared.fault.LineFault.{LineFault}
 use Rattle.text.specs.Split.{Part}
@@ -15,7 +14,8 @@ use Rattle.kind.specs.declared.fault.FrameFault.{FrameFault}
 use Rattle.kind.specs.declared.fault.FrameFault.TheVariants.{Wrong}
 use Rattle.kind.specs.Actions.{action_of}
 use Rattle.kind.specs.Kinds.{Lawful, Bytes}
-use Rattle.flat.specs.Picks.{Pick, pick_of, counted}
+use Rattle.flat.specs.declared.pick.Pick.{Pick}
+use Rattle.flat.specs.Picks.{pick_of, counted}
 use Rattle.flat.specs.Frames.{first, frame_bits, flat_byte}
 use Rattle.flat.specs.Lines.{rule_of, ruled, with_third, unless_fault, flat_rule}
 use Rattle.flat.specs.Reading.{flat}
@@ -29,25 +29,22 @@ whole s zero = omega (arith, byte_below s)
 whole s (suc i) = lit< tt
 
 back : (frame s : List ℕ) → frame_bits frame ≡ Ok s → flat_byte (bit_at s) ∷ [] ≡ frame
-back [] s e = let z : ◌≡◌ {A = ℕ} 0 1 = cc in absurd (omega arith)
-back (b ∷ c ∷ bs) s e = let z : ◌≡◌ {A = ℕ} 0 1 = cc in absurd (omega arith)
+back [] s e = cc
+back (b ∷ c ∷ bs) s e = cc
 back (b ∷ []) s e = go (nat_lt b 64) refl e
   where
     go : (q : Bool) → nat_lt b 64 ≡ q → ◌≡◌ {A = Result (List ℕ) FrameFault} (cond q (Ok (first (b * 4))) (Err Wrong)) (Ok s) → flat_byte (bit_at s) ∷ [] ≡ b ∷ []
     go true h k =
         let l : b < 64 = ltb-true b 64 h in
-        let z : first (b * 4) ≡ s = cc in
-        let y : flat_byte (bit_at (first (b * 4))) ≡ b = spelt (first (b * 4)) (omega arith) ∙ (let q : b * 4 / 4 ≡ b = omega arith in q) in
-        ap (λ (t : List ℕ). flat_byte (bit_at t) ∷ []) (sym z) ∙ ap (λ (x : ℕ). x ∷ []) y
-    go false h k = let z : ◌≡◌ {A = ℕ} 0 1 = cc in absurd (omega arith)
+        let z : s ≡ first (b * 4) = cc in
+        let y : b * 4 / 4 ≡ b = omega arith in
+        ap (λ (t : List ℕ). flat_byte (bit_at t) ∷ []) z ∙ ap (λ (x : ℕ). x ∷ []) (spelt (first (b * 4)) (omega arith) ∙ y)
+    go false h k = cc
 
 -- a bit after the sixth of a byte whose two lowest bits are 0, and 17 bytes of 0
 late : (x v : ℕ) → x % 4 ≡ 0 → 6 < v → bit_at (first x) v ≡ false
-late x v e l = go (where_is v l)
+late x v e l = go (cases_lt 8 v)
   where
-    where_is : (v : ℕ) → 6 < v → (v ≡ 7) ⊎ ((v ≡ 8) ⊎ (8 < v))
-    where_is v h = elim (dec_lt 8 v) [ yes p ↦ inr (inr p) | no p ↦ elim (dec_lt 7 v) [ yes q ↦ inr (inl (omega arith)) | no q ↦ inl (omega arith) ] ]
-
     none : (k i : ℕ) → ◌≡◌ {A = ℕ} (slice_index (replicate k 0) i) 0
     none zero i = refl
     none (suc k) zero = refl
@@ -56,36 +53,30 @@ late x v e l = go (where_is v l)
     zero_bit : (y : ℕ) → y ≡ 0 → (y == 1) ≡ false
     zero_bit y p = rw p refl
 
-    go : (v ≡ 7) ⊎ ((v ≡ 8) ⊎ (8 < v)) → bit_at (first x) v ≡ false
-    go (inl p) = ap (bit_at (first x)) p ∙ zero_bit (x / 2 % 2) (omega arith)
-    go (inr (inl p)) = ap (bit_at (first x)) p ∙ zero_bit (x / 1 % 2) (omega arith)
-    go (inr (inr p)) =
+    go : (8 < v) ⊎ (v ≤ 8) → bit_at (first x) v ≡ false
+    go (inl p) =
         let k : ℕ = (v - 1) / 8 - 1 in
         let i : (v - 1) / 8 ≡ suc k = omega arith in
-        ap (λ (j : ℕ). nat_eq ((slice_index (first x) j / 2 ^ (7 - (v - 1) % 8)) % 2) 1) i
-        ∙ ap (λ (y : ℕ). nat_eq ((y / 2 ^ (7 - (v - 1) % 8)) % 2) 1) (none 17 k)
-        ∙ ap (λ (y : ℕ). nat_eq (y % 2) 1) (zero-div (2 ^ (7 - (v - 1) % 8)))
+        rw (i, none 17 k, zero-div (2 ^ (7 - (v - 1) % 8))) refl
+    go (inr p) = elim (cases_lt 7 v) [ inl q ↦ (let w : v ≡ 8 = omega arith in rw w (zero_bit (x / 1 % 2) (omega arith))) | inr q ↦ (let w : v ≡ 7 = omega arith in rw w (zero_bit (x / 2 % 2) (omega arith))) ]
 
 cares : (line : List ℕ) (r : Rule) → flat_rule line ≡ Ok r → (v : ℕ) → 6 < v → bit_at r.care v ≡ false
 cares line r e v l = from_line (length line) (line_fields line) e
   where
-    fourth : (from to : Pick) → (counted from * 32 + counted to * 4) % 4 ≡ 0
-    fourth from to = omega arith
-
     from_picks : (a : Result Action LineFault) (x y : Result Pick FlatFault) → ruled a x y ≡ Ok r → bit_at r.care v ≡ false
-    from_picks (Err f) x y e = let z : ◌≡◌ {A = ℕ} 0 1 = cc in absurd (omega arith)
-    from_picks (Ok a) (Err f) y e = let z : ◌≡◌ {A = ℕ} 0 1 = cc in absurd (omega arith)
-    from_picks (Ok a) (Ok x) (Err f) e = let z : ◌≡◌ {A = ℕ} 0 1 = cc in absurd (omega arith)
+    from_picks (Err f) x y e = cc
+    from_picks (Ok a) (Err f) y e = cc
+    from_picks (Ok a) (Ok x) (Err f) e = cc
     from_picks (Ok a) (Ok x) (Ok y) e =
-        let z : rule_of a x y ≡ r = cc in
-        ap (λ (s : Rule). bit_at s.care v) (sym z) ∙ late (counted x * 32 + counted y * 4) v (fourth x y) l
+        let z : r ≡ rule_of a x y = cc in
+        ap (λ (s : Rule). bit_at s.care v) z ∙ late (counted x * 32 + counted y * 4) v (omega arith) l
 
     from_parts : (n : ℕ) (a b : Part) (c : Option Part) → with_third n a b c ≡ Ok r → bit_at r.care v ≡ false
-    from_parts n a b None e = let z : ◌≡◌ {A = ℕ} 0 1 = cc in absurd (omega arith)
+    from_parts n a b None e = cc
     from_parts n a b (Some c) e = from_picks (action_of a.text a.place) (pick_of b.text b.place) (pick_of c.text c.place) e
 
     from_line : (n : ℕ) (p : Result Parts LineFault) → unless_fault n p ≡ Ok r → bit_at r.care v ≡ false
-    from_line n (Err f) e = let z : ◌≡◌ {A = ℕ} 0 1 = cc in absurd (omega arith)
+    from_line n (Err f) e = cc
     from_line n (Ok p) e = from_parts n p.action p.second p.third e
 
 pub flat_lawful : Lawful flat

@@ -10,7 +10,8 @@ use Rattle.kind.specs.declared.fault.FlatFault.{FlatFault}
 use Rattle.kind.specs.declared.fault.RuleFault.{RuleFault}
 use Rattle.kind.specs.declared.fault.RuleFault.TheVariants as fault
 use Rattle.kind.specs.Actions.{action_of}
-use Rattle.flat.specs.Picks.{Pick, pick_of, picked, counted}
+use Rattle.flat.specs.declared.pick.Pick.{Pick}
+use Rattle.flat.specs.Picks.{pick_of, picked, counted}
 use Rattle.flat.specs.Frames.{first}
 
 -- the rule for the frames of two picks: three bits for from, then three for to

@@ -1,62 +1,33 @@
 -- The six bits of a flat frame, and the byte that they spell.
-use Rattle.std.specs.Prelude.{◌≡◌, ℕ, zero, suc, ◌+◌, ◌*◌, ◌/◌, ◌%◌, ◌<◌, ◌≤◌, Bool, true, false, ◌⊎◌, List, [], ◌∷◌, length, drop, ◌==◌, slice_index, slice_index_or, slice_set, refl}
-use Rattle.std.proofs.Common.{sym, ap, ◌∙◌, inl, inr, arith, mod-lt, lit<}
-use Rattle.std.proofs.Math.Decide.{dec_lt}
+use Rattle.std.specs.Prelude.{◌≡◌, ℕ, ◌+◌, ◌*◌, ◌/◌, ◌%◌, ◌<◌, ◌≤◌, Bool, List, [], ◌∷◌, length, drop, ◌==◌, slice_index, slice_index_or, slice_set}
+use Rattle.std.proofs.Common.{sym, ap, ◌∙◌, arith}
+use Rattle.std.proofs.lemmas.Bool.Decides.{nat_tests}
 use Rattle.engine.specs.Ops.{Bits, Agree, bit_at}
 use Rattle.flat.specs.Frames.{first, bit, flat_byte}
 
 -- the lowest bit of a number
 low : (x : ℕ) → bit (x % 2 == 1) ≡ x % 2
-low x = go (x % 2) (two (x % 2) (mod-lt x (lit< tt)))
-  where
-    two : (y : ℕ) → y < 2 → (y ≡ 0) ⊎ (y ≡ 1)
-    two y h = elim (dec_lt y 1) [ yes p ↦ inl (omega arith) | no p ↦ inr (omega arith) ]
-
-    go : (y : ℕ) → (y ≡ 0) ⊎ (y ≡ 1) → bit (y == 1) ≡ y
-    go y (inl p) = rw p refl
-    go y (inr p) = rw p refl
+low x = let h : x % 2 < 2 = omega arith in grind (arith, nat_tests)
 
 -- the top six bits of a byte spell a quarter of it
 pub spelt : (s : List ℕ) → slice_index s 0 < 256 → flat_byte (bit_at s) ≡ slice_index s 0 / 4
 spelt s h = let x : ℕ = slice_index_or s 0 0 in sum x h (low (x / 128)) (low (x / 64)) (low (x / 32)) (low (x / 16)) (low (x / 8)) (low (x / 4))
   where
-    halves : (y : ℕ) → y ≡ 2 * (y / 2) + y % 2
-    halves y = omega arith
-
     sum : {a b c d e f : ℕ} (x : ℕ) → x < 256 → a ≡ x / 128 % 2 → b ≡ x / 64 % 2 → c ≡ x / 32 % 2 → d ≡ x / 16 % 2 → e ≡ x / 8 % 2 → f ≡ x / 4 % 2 → (4 * a + 2 * b + c) * 8 + (4 * d + 2 * e + f) ≡ x / 4
-    sum x h p q r s t u =
-        let h8 : x / 8 ≡ x / 4 / 2 = omega arith in
-        let h16 : x / 16 ≡ x / 8 / 2 = omega arith in
-        let h32 : x / 32 ≡ x / 16 / 2 = omega arith in
-        let h64 : x / 64 ≡ x / 32 / 2 = omega arith in
-        let h128 : x / 128 ≡ x / 64 / 2 = omega arith in
-        let top : x / 128 < 2 = omega arith in
-        omega (arith, halves (x / 4), halves (x / 8), halves (x / 16), halves (x / 32), halves (x / 64), halves (x / 128))
+    sum x h p q r s t u = omega arith
 
 -- bits 1 to 6 one by one
 six : (P : ℕ → Type 0) → P 1 → P 2 → P 3 → P 4 → P 5 → P 6 → (v : ℕ) → 1 ≤ v → v ≤ 6 → P v
-six P a b c d e f zero l h = absurd (omega arith)
-six P a b c d e f (suc zero) l h = a
-six P a b c d e f (suc (suc zero)) l h = b
-six P a b c d e f (suc (suc (suc zero))) l h = c
-six P a b c d e f (suc (suc (suc (suc zero)))) l h = d
-six P a b c d e f (suc (suc (suc (suc (suc zero))))) l h = e
-six P a b c d e f (suc (suc (suc (suc (suc (suc zero)))))) l h = f
-six P a b c d e f (suc (suc (suc (suc (suc (suc (suc v))))))) l h = absurd (omega arith)
+six P a b c d e f v l h = grind arith
 
 -- a bit is 0 or 1, and tells its truth value
-small : (b : Bool) → bit b ≤ 1
-small true = omega arith
-small false = omega arith
-
 told : (b : Bool) (x : ℕ) → x ≡ bit b → (x == 1) ≡ b
-told true x e = rw e refl
-told false x e = rw e refl
+told b x e = grind (arith, nat_tests)
 
 -- the byte that six bits spell has those bits
 module _ (s : Bits) where
   at : (v : ℕ) → bit (s v) ≤ 1
-  at v = small (s v)
+  at v = grind (arith, nat_tests)
 
   pub byte_below : flat_byte s < 64
   byte_below = omega (arith, at 1, at 2, at 3, at 4, at 5, at 6)

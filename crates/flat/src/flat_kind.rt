@@ -1,5 +1,6 @@
 ghost use Rattle.std.specs.Prelude.{◌≡◌, ◌≤◌};
 ghost use Rattle.text.specs.Lines.{parts};
+ghost use Rattle.flat.specs.Picks.{picked};
 ghost use Rattle.flat.specs.Lines.{rule_of, fields_rule};
 ghost use Rattle.flat.specs.Frames.{first};
 ghost use Rattle.flat.specs.Reading.{flat};
@@ -25,7 +26,7 @@ const SIZE: u8 = 1;
 const FRAMES: u8 = 64;
 
 // The kind whose frames are one byte, from × 8 + to, each 0 to 7.
-#[derive(Clone, Copy)]
+#[derive(Clone, Copy, Debug, PartialEq, Eq)]
 pub struct FlatKind;
 
 // An assignment of this first byte; the other bytes are 0.
@@ -39,6 +40,7 @@ fn first_byte(b: u8) -> Assignment
 
 // The rule for the frames of these picks.
 fn rule(action: Action, from: Pick, to: Pick) -> Rule
+    requires { (picked from ≤ 7) × (picked to ≤ 7) }
     ensures { result ≡ rule_of action from to }
 {
     let value = first_byte(from.value() * 32 + to.value() * 4);
@@ -88,6 +90,7 @@ impl Kind for FlatKind {
         }
     }
 
+    #[tactic(auto, using(crate::specs::Spelling::written))]
     fn back(&self, bits: &Assignment, place: &mut Assignment) {
         place[0] = bits[0] / 4;
     }
@@ -123,9 +126,7 @@ mod tests {
 
     #[test]
     fn frames_turn_and_come_back(rt: HostRuntime) -> Result<(), Fail> {
-        let Ok(bits) = FlatKind.turn(&[27]) else {
-            return Err(Fail::new("refused"));
-        };
+        let bits = FlatKind.turn(&[27]).map_err(|_| Fail::new("refused"))?;
         let mut place = [0; BYTES];
         FlatKind.back(&bits, &mut place);
         assert_eq!(rt; place[0], 27);

@@ -1,32 +1,22 @@
-ghost use Rattle.std.specs.Prelude.{◌≡◌, ◌≤◌};
-ghost use Rattle.flat.specs.Picks.{pick_of, picked, counted};
+ghost use Rattle.std.specs.Prelude.{◌≡◌, ◌≤◌, IfOk};
 
 use kind::fault::FlatFault;
-use std::marker::Model;
 use text::fields::Field;
 
-// What a field for from or to says: one of the numbers 0 to 7, or with none any of them.
-#[derive(Clone, Copy)]
+// What a field for from or to says: a number, or none where any will do.
+#[derive(Clone, Copy, Debug, PartialEq, Eq)]
 pub struct Pick {
-    number: Option<u8>,
-}
-
-impl Model for Pick {
-    ghost use Rattle.std.specs.Prelude.{ℕ, ◌≤◌, Option, IfSome};
-
-    ghost Value = { Option ℕ };
-
-    ghost view = { λ p. p.number };
-
-    ghost invariant = { λ p. IfSome p.number (λ d. d ≤ 7) };
-
-    ghost inverse = { λ o. record { number = o } };
+    pub number: Option<u8>,
 }
 
 impl Pick {
+    ghost use Rattle.flat.specs.Picks.{pick_of, picked, counted};
+
+    // kept: it reads a text and tells a fault by the text's place; `try_from` would say neither
     // The pick that a field says: `*`, or a digit 0 to 7.
     pub fn read(field: Field<'_>) -> Result<Pick, FlatFault>
-        ensures { result ≡ pick_of field.entry.text.now field.entry.place }
+        ensures value { result ≡ pick_of field.entry.text.now field.entry.place }
+        ensures bound { IfOk result (λ p. picked p ≤ 7) }
     {
         match field.text {
             b"*" => Ok(Pick { number: None }),
@@ -39,8 +29,7 @@ impl Pick {
 
     // The three bits of the number; 0 where any will do.
     pub fn value(self) -> u8
-        ensures is { result ≡ picked self }
-        ensures three { result ≤ 7 }
+        ensures { result ≡ picked self }
     {
         self.number.unwrap_or(0)
     }

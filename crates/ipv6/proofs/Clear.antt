@@ -1,5 +1,5 @@
 -- Addresses, prefixes and decimals have no space and are not empty; the bounds of what they say.
-use Rattle.std.proofs.Common.{◌≡◌, ℕ, zero, suc, ◌+◌, ◌%◌, ◌^◌, ◌<◌, ◌≤◌, List, [], ◌∷◌, ◌++◌, length, replicate, None, sym, refl, ap, ◌∙◌, subst, arith, lit<, length-append}
+use Rattle.std.proofs.Common.{◌≡◌, ℕ, zero, suc, ◌%◌, ◌^◌, ◌<◌, ◌≤◌, List, [], ◌∷◌, ◌++◌, length, replicate, None, sym, refl, ap, ◌∙◌, subst, arith, rules, lit<, length-append}
 use native.Mathlib.Nat.{pow-le-pow_right}
 use Rattle.std.specs.Int.Digits.{number_from_digits, AllBelowBase}
 use Rattle.std.proofs.lemmas.Int.Digits.{number_lt}
@@ -32,8 +32,8 @@ prefix_clear (whole t a s) = spells_without 32 refl refl s.spells
 prefix_clear (sized t d a k s n l z) = without_append 32 t (47 ∷ d) (spells_without 32 refl refl s.spells) (refl, decimal_clear n)
 
 pub word_clear : (a : Action) → Without 32 (action_word a)
-word_clear Block = (refl, (refl, (refl, (refl, (refl, tt)))))
-word_clear Pass = (refl, (refl, (refl, (refl, tt))))
+word_clear Block = search rules
+word_clear Pass = search rules
 
 -- some byte
 joined_some : {t vs : List ℕ} → Joined t vs → 0 < length t
@@ -95,10 +95,10 @@ spells_below : {t gs : List ℕ} → Spells t gs → number_from_digits 65536 gs
 spells_below (full t vs j l) = eight_below vs (joined_below j) l
 spells_below (short l ls r rs n a b m k) =
     eight_below (ls ++ (replicate n 0 ++ rs)) (under_append ls (replicate n 0 ++ rs) (side_below a) (under_append (replicate n 0) rs (zeros_below n) (side_below b)))
-    (length-append ls (replicate n 0 ++ rs) ∙ ap (λ x. length ls + x) (length-append (replicate n 0) rs ∙ ap (λ x. x + length rs) (length-replicate n 0)) ∙ k)
+    (simp (length-append, length-replicate) k)
 
 spelling_below : {t : List ℕ} {a : ℕ} → Spelling t a → a < 2 ^ 128
-spelling_below s = subst (λ x. x < 2 ^ 128) (sym s.value) (spells_below s.spells)
+spelling_below s = rw s.value (spells_below s.spells)
 
 -- what a prefix text says
 pub record Bounded (x : Prefix) : Type 0 where

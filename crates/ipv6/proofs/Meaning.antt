@@ -1,5 +1,5 @@
 -- What the rule of a line matches.
-use Rattle.std.proofs.Common.{◌≡◌, ℕ, List, length, take, drop, IfOk, Ok, Err, Result, sym, refl, ap, ◌∙◌, subst}
+use Rattle.std.proofs.Common.{◌≡◌, ℕ, List, length, take, drop, IfOk, Ok, Err, Result, sym, refl, ap, ◌∙◌}
 use Rattle.std.specs.Int.Digits.{number_from_digits}
 use Rattle.engine.specs.Ops.{bit_at}
 use Rattle.kind.specs.declared.rule.Rule.{Rule}
@@ -26,19 +26,25 @@ line_right (any_port a t x h) = record { prefix = prefix_bounded h; port = tt }
 line_right (one_port a t d x q h n) = record { prefix = prefix_bounded h; port = n.fits }
 
 module _ (s : Said) (right : Right s) (f : List ℕ) (whole : length f ≡ 18) (small : Bytes f) where
-  agrees : Matches 144 (rule_of s) (bit_at f) → Agrees (value_bytes s.prefix.address s.port) (care_bytes s.prefix.length s.port) (frame_bytes (number_from_digits 256 (take 16 f)) (number_from_digits 256 (drop 16 f)))
+  abbrev top : ℕ
+  top = number_from_digits 256 (take 16 f)
+
+  abbrev low : ℕ
+  low = number_from_digits 256 (drop 16 f)
+
+  agrees : Matches 144 (rule_of s) (bit_at f) → Agrees (value_bytes s.prefix.address s.port) (care_bytes s.prefix.length s.port) (frame_bytes top low)
   agrees m v l h c = ap (λ x. bit_at x v) (two_numbers f whole small) ∙ m v l h c
 
   covers : Matches 144 (rule_of s) (bit_at f) → Covers s f
   covers m = record {
-    address = address_from s.prefix.address (number_from_digits 256 (take 16 f)) (number_from_digits 256 (drop 16 f)) s.prefix.length s.port right.port right.prefix.length (port_below f whole small) right.prefix.address (address_below f whole small) (agrees m);
-    port = port_from s.prefix.address (number_from_digits 256 (take 16 f)) (number_from_digits 256 (drop 16 f)) s.prefix.length s.port right.port right.prefix.length (port_below f whole small) (agrees m);
+    address = address_from s.prefix.address top low s.prefix.length s.port right.port right.prefix.length (port_below f whole small) right.prefix.address (address_below f whole small) (agrees m);
+    port = port_from s.prefix.address top low s.prefix.length s.port right.port right.prefix.length (port_below f whole small) (agrees m);
   }
 
   covered : Covers s f → Matches 144 (rule_of s) (bit_at f)
   covered c v l h e =
       ap (λ x. bit_at x v) (sym (two_numbers f whole small))
-      ∙ agrees_to s.prefix.address (number_from_digits 256 (take 16 f)) (number_from_digits 256 (drop 16 f)) s.prefix.length s.port right.port right.prefix.length (port_below f whole small) c.address (port_to s.port (number_from_digits 256 (drop 16 f)) c.port) v l h e
+      ∙ agrees_to s.prefix.address top low s.prefix.length s.port right.port right.prefix.length (port_below f whole small) c.address (port_to s.port low c.port) v l h e
 
 meant_rule : (text : List ℕ) (s : Said) → LineText text s → Meant text (rule_of s)
 meant_rule text s t =
@@ -54,5 +60,5 @@ meant_rule text s t =
 
 -- an answer that is the rule
 pub rule_meant : (text : List ℕ) (r : Result Rule RuleFault) → r ≡ ipv6_rule text → IfOk r (Meant text)
-rule_meant text (Ok x) e = let t = (accepts_rule text (Ok x) e x).0 refl in subst (Meant text) (sym t.rule) (meant_rule text t.said t.says)
+rule_meant text (Ok x) e = let t = (accepts_rule text (Ok x) e x).0 refl in rw t.rule (meant_rule text t.said t.says)
 rule_meant text (Err f) e = tt

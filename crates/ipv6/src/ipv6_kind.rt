@@ -15,7 +15,7 @@ const BITS: u8 = 144;
 const SIZE: u8 = 18;
 
 // The kind whose frames are 16 address bytes and then the port, high byte first.
-#[derive(Clone, Copy)]
+#[derive(Clone, Copy, Debug, PartialEq, Eq)]
 pub struct Ipv6Kind;
 
 impl Kind for Ipv6Kind {
@@ -41,6 +41,7 @@ impl Kind for Ipv6Kind {
         Assignment::try_from(frame).map_err(|_| FrameFault::Wrong)
     }
 
+    #[tactic(auto, using(crate::specs::Laws::copied))]
     fn back(&self, bits: &Assignment, place: &mut Assignment) {
         let bytes = bits.as_slice();
         place.copy_from_slice(bytes);
@@ -74,9 +75,7 @@ mod tests {
     #[test]
     fn frames_turn_and_come_back(rt: HostRuntime) -> Result<(), Fail> {
         let frame = [7; BYTES];
-        let Ok(bits) = Ipv6Kind.turn(&frame) else {
-            return Err(Fail::new("refused"));
-        };
+        let bits = Ipv6Kind.turn(&frame).map_err(|_| Fail::new("refused"))?;
         let mut place = [0; BYTES];
         Ipv6Kind.back(&bits, &mut place);
         assert_eq!(rt; place[17], 7);

@@ -56,6 +56,7 @@ impl Said {
         Said::read(read_fields(line)?)
     }
 
+    // kept: a public method that callers name; `Rule::from(said)` would say no more
     // The rule that this says.
     pub fn rule(self) -> Rule
         ensures { result ≡ rule_of self }

@@ -34,7 +34,6 @@ pub enum FrameFault {
     Wrong,
 }
 
-// kept: a derived From has no contract
 impl From<LineFault> for RuleFault {
     ghost from_gives = { λ e b. b ≡ RuleFault.Line e };
 
@@ -43,7 +42,6 @@ impl From<LineFault> for RuleFault {
     }
 }
 
-// kept: a derived From has no contract
 impl From<AddressFault> for RuleFault {
     ghost from_gives = { λ e b. b ≡ RuleFault.Address e };
 
@@ -52,7 +50,6 @@ impl From<AddressFault> for RuleFault {
     }
 }
 
-// kept: a derived From has no contract
 impl From<PortFault> for RuleFault {
     ghost from_gives = { λ e b. b ≡ RuleFault.Port e };
 
@@ -61,7 +58,6 @@ impl From<PortFault> for RuleFault {
     }
 }
 
-// kept: a derived From has no contract
 impl From<FlatFault> for RuleFault {
     ghost from_gives = { λ e b. b ≡ RuleFault.Flat e };
 
@@ -71,7 +67,7 @@ impl From<FlatFault> for RuleFault {
 }
 
 impl RuleFault {
-    // kept: `number` and `place` name which fact of a fault they give; a From<..> for u8 would not
+    // kept: a refusal is printed by number and place, and `number` names which of them it gives; a From for u8 would not
     // The fault's number.
     pub fn number(self) -> u8
         ensures { result ≡ rule_number self }
@@ -98,6 +94,7 @@ impl RuleFault {
 }
 
 impl FrameFault {
+    // kept: a refusal is printed by number and place, and `number` names which of them it gives; a From for u8 would not
     // The fault's number; it has no place.
     pub fn number(self) -> u8
         ensures { result ≡ frame_number self }

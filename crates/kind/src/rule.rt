@@ -25,6 +25,7 @@ pub struct Rule {
 }
 
 impl Action {
+    // kept: it reads a text and tells a fault by the text's place; `try_from` would say neither
     // The action that a field says.
     pub fn read(field: Field<'_>) -> Result<Action, LineFault>
         ensures { result ≡ action_of field.entry.text.now field.entry.place }
@@ -62,6 +63,7 @@ impl fmt::Display for Action {
 }
 
 // A rule matches a frame exactly when they agree at every bit that counts.
+#[tactic(auto, using(crate::proofs::Matched::matching))]
 pub fn matching_stands()
     ensures { Matching }
 {}

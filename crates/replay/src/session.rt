@@ -26,7 +26,7 @@ pub struct Session {
 
 // A filter of this kind on a word engine of so many variables, the kind's where no number is given.
 fn new_filter<K: Kind>(kind: K, n: Option<usize>) -> Filter<K, WordEngine> {
-    let n = n.map_or(kind.bits(), |n| n.min(255) as u8);
+    let n = n.map_or(kind.bits(), |n| u8::try_from(n).unwrap_or(u8::MAX));
     Filter::new(kind, WordEngine::new(n))
 }
 
@@ -59,14 +59,25 @@ fn refuse(rt: &HostRuntime) -> io::Result<()> {
     println!(rt; "bad command")
 }
 
-// The rule of a line of this kind that is given in hexadecimal.
-fn read(rt: &HostRuntime, kind: KindName, text: &[u8]) -> io::Result<()> {
-    let Some(line) = decode(rt.alloc(), text)? else {
-        return refuse(rt);
-    };
+// What is done with the bytes of hexadecimal text; other text is refused.
+fn decoded<F: FnOnce(&[u8]) -> io::Result<()>>(
+    rt: &HostRuntime,
+    text: &[u8],
+    act: F,
+) -> io::Result<()>
+    requires { F.IsAlwaysCallable act }
+{
+    match decode(rt.alloc(), text)? {
+        Some(bytes) => act(bytes.as_slice()),
+        None => refuse(rt),
+    }
+}
+
+// The rule of a line of this kind.
+fn read(rt: &HostRuntime, kind: KindName, line: &[u8]) -> io::Result<()> {
     let read = match kind {
-        KindName::Flat => FlatKind.read(line.as_slice()),
-        KindName::Ipv6 => Ipv6Kind.read(line.as_slice()),
+        KindName::Flat => FlatKind.read(line),
+        KindName::Ipv6 => Ipv6Kind.read(line),
     };
     match read {
         Ok(rule) => println!(rt; "{}", Bits(rule)),
@@ -88,33 +99,22 @@ impl Session {
         println!(rt; "{}", filter.perform(call))
     }
 
-    // A line that is given in hexadecimal is added.
-    fn add_hex(&mut self, rt: &HostRuntime, text: &[u8]) -> io::Result<()> {
-        match decode(rt.alloc(), text)? {
-            Some(line) => self.ask(rt, &Call::Add(line.as_slice())),
-            None => refuse(rt),
-        }
-    }
-
-    // kept: beside `add_hex`, since other text is no command there and no frame here
     // A frame that is given in hexadecimal is judged; other text is no frame.
     fn judge(&mut self, rt: &HostRuntime, text: &[u8]) -> io::Result<()> {
-        match decode(rt.alloc(), text)? {
-            Some(frame) => self.ask(rt, &Call::Judge(frame.as_slice())),
-            None => self.ask(rt, &Call::Judge(&[])),
-        }
+        let frame = decode(rt.alloc(), text)?;
+        self.ask(rt, &Call::Judge(frame.as_deref().unwrap_or_default()))
     }
 
     // A command is carried out, and its answer printed.
     fn carry_out(&mut self, rt: &HostRuntime, command: Command) -> io::Result<()> {
         match command {
-            Command::Read(kind, text) => read(rt, kind, text),
+            Command::Read(kind, text) => decoded(rt, text, |line| read(rt, kind, line)),
             Command::Filter(kind, n) => {
                 self.filter = Some(Opened::new(kind, n));
                 println!(rt; "ready")
             }
             Command::Add(line) => self.ask(rt, &Call::Add(line)),
-            Command::AddHex(text) => self.add_hex(rt, text),
+            Command::AddHex(text) => decoded(rt, text, |line| self.ask(rt, &Call::Add(line))),
             Command::Judge(text) => self.judge(rt, text),
             Command::Withdraw(number) => self.ask(rt, &Call::Withdraw(number)),
             Command::Commit => self.ask(rt, &Call::Commit),

@@ -51,6 +51,7 @@ impl fmt::Display for Bits {
     }
 }
 
+// kept: a place has 18 bytes for every kind, and only the kind tells how many of them are the frame
 // An answer of a filter whose frames have `size` bytes.
 #[derive(Clone, Copy)]
 pub struct Shown {

@@ -70,6 +70,7 @@ impl Scratch {
         }
     }
 
+    // kept: rule and n are not one, since a list of rules has one n
     // The rule's register becomes the frames that it matches; n is the number of bits.
     #[tactic(auto, using(crate::proofs::Rows::bits_down))]
     fn build<E: Engine>(self, e: &mut E, rule: &Rule, n: u8) -> Result<(), EngineFault>
@@ -82,7 +83,7 @@ impl Scratch {
         Ok(())
     }
 
-    // Register into becomes a or b, and b becomes false.
+    // Register `into` becomes a or b, and b becomes false.
     fn join<E: Engine>(self, e: &mut E, into: u8, a: u8, b: u8) -> Result<(), EngineFault>
         ensures { Ran E.Engine.rooms (join_steps self into a b) (E.Engine.view e.old) (E.Engine.view e.new) result }
     {
@@ -96,7 +97,7 @@ impl Scratch {
         e.clear(self.both)
     }
 
-    // The frames that the rule matches, and those of them that are not in register earlier.
+    // The frames that the rule matches, and those of them that are not in register `earlier`.
     pub(crate) fn find<E: Engine>(
         self,
         e: &mut E,

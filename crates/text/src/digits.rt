@@ -27,6 +27,7 @@ pub trait Digits {
 }
 
 // The digits `0` to `9`.
+#[derive(Clone, Copy, Debug, PartialEq, Eq)]
 pub struct DecimalDigits;
 
 impl Digits for DecimalDigits {
@@ -40,6 +41,7 @@ impl Digits for DecimalDigits {
 
     const BASE: usize = 10;
 
+    // kept: the value of a digit is a match on ranges of characters, as the page on kinds has it
     fn digit(c: u8) -> Option<u8> {
         match c as char {
             '0'..='9' => Some(c - b'0'),
@@ -49,6 +51,7 @@ impl Digits for DecimalDigits {
 }
 
 // The digits `0` to `9`, and `a` to `f` in either case.
+#[derive(Clone, Copy, Debug, PartialEq, Eq)]
 pub struct HexDigits;
 
 impl Digits for HexDigits {

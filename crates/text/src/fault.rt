@@ -13,7 +13,7 @@ pub enum LineFault {
 }
 
 impl LineFault {
-    // kept: `number` and `place` name which fact of a fault they give; a From<..> for u8 would not
+    // kept: a refusal is printed by number and place, and `number` names which of them it gives; a From for u8 would not
     // The fault's number.
     pub fn number(self) -> u8
         ensures { result ≡ line_number self }
@@ -25,6 +25,7 @@ impl LineFault {
         }
     }
 
+    // kept: a refusal without a place is printed with place 0
     // The fault's place in its line.
     pub fn place(self) -> usize
         ensures { result ≡ line_place self }

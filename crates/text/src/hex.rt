@@ -4,7 +4,7 @@ ghost use Rattle.text.specs.Hexadecimal.{hex_digit, hex_pair, hex_low, hex_bytes
 
 use std::alloc::{AllocError, Global};
 
-// kept: the ranges are the definition; `to_digit(16)` says it by the library's table of digits
+// kept: the value of a digit is a match on ranges of characters, as the page on kinds has it
 // The value of a hexadecimal digit in either case.
 pub fn digit(c: u8) -> Option<u8>
     ensures { result ≡ hex_digit c }
@@ -24,14 +24,14 @@ fn byte(high: u8, low: u8) -> Option<u8>
     Some(digit(high)? * 16 + digit(low)?)
 }
 
-// kept: bad text and want of memory are two answers here; `hex::decode` of the kit has one error for both
+// kept: `hex::decode` of the kit tells bad text and want of memory by one enum, which would have to be split again
 // The bytes of a text of pairs of hexadecimal digits; none for a lone digit or a byte that is no digit.
 pub fn decode(heap: Global, text: &[u8]) -> Result<Option<Vec<u8>>, AllocError>
     ensures { IfOk result (λ o. option_map vec_items o ≡ hex_bytes text.now) }
 {
     let mut bytes = Vec::new(heap);
     let mut rest = text;
-    // kept: the loop ends early in two ways, at a bad digit and for want of memory; a chain would hide the one in the other
+    // kept: no index is counted; with `chunks(2)` each turn would have to test for a lone digit
     while let [high, low, tail @ ..] = rest {
         let Some(b) = byte(*high, *low) else {
             return Ok(None);
@@ -42,6 +42,7 @@ pub fn decode(heap: Global, text: &[u8]) -> Result<Option<Vec<u8>>, AllocError>
     Ok(rest.is_empty().then_some(bytes))
 }
 
+// kept: `char::from_digit` gives an Option that is never none here, of a char that has to become a byte
 // The lower-case hexadecimal digit of the low four bits.
 pub fn low_digit(d: u8) -> u8
     ensures { result ≡ hex_low d }
@@ -59,13 +60,9 @@ mod tests {
 
     #[test]
     fn either_case_is_read(rt: HostRuntime) -> Result<(), Fail> {
-        match decode(rt.alloc(), b"0aFf")? {
-            Some(bytes) => {
-                assert_eq!(rt; bytes.as_slice(), [10, 255].as_slice());
-                Ok(())
-            },
-            None => Err(Fail::new("refused")),
-        }
+        let bytes = decode(rt.alloc(), b"0aFf")?.ok_or(Fail::new("refused"))?;
+        assert_eq!(rt; bytes.as_slice(), [10, 255].as_slice());
+        Ok(())
     }
 
     #[test]

@@ -1,10 +1,10 @@
 -- What each call of a word engine does to the meaning of its registers.
-use Rattle.std.specs.Prelude.{◌≡◌, ℕ, zero, suc, ◌+◌, ◌-◌, ◌*◌, ◌/◌, ◌%◌, ◌^◌, ◌<◌, ◌≤◌, Bool, true, false, cond, not, ◌&&◌, ◌≢◌, List, length, replicate, Ok, ◌==◌, nat_le, slice_index, slice_index_or, slice_set, refl}
-use Rattle.std.proofs.Common.{sym, ap, ◌∙◌, arith, mod-eq_of_lt, lit<, get_or-set_same, get_or-set_other, eqb-true, le-leb}
+use Rattle.std.specs.Prelude.{◌≡◌, ℕ, zero, suc, ◌+◌, ◌-◌, ◌*◌, ◌/◌, ◌%◌, ◌^◌, ◌<◌, ◌≤◌, Bool, true, false, cond, not, ◌&&◌, ◌≢◌, ◌⊎◌, List, length, replicate, Ok, ◌==◌, nat_le, slice_index, slice_index_or, slice_set, refl}
+use Rattle.std.proofs.Common.{sym, ap, ◌∙◌, inl, inr, arith, mod-eq_of_lt, lit<, get_or-set_same, get_or-set_other, eqb-true, le-leb}
 use Rattle.std.proofs.Math.Path.{fun_ext}
 use Rattle.std.proofs.Math.Nat.{pow-le-pow_right}
-use Rattle.std.specs.Int.Bits.{bit_and, bit_xor}
-use Rattle.std.proofs.lemmas.Bool.{eq-eqb, eqb-false}
+use Rattle.std.specs.Int.Bits.{bit_and, bit_xor, mask_lt}
+use Rattle.std.proofs.lemmas.Bool.{eq-eqb, cases_eq, eqb-false}
 use Rattle.std.proofs.lemmas.Nat.{shr_below, and_mask}
 use Rattle.engine.specs.Ops.{Bits, Agree, Op, Regs, put, held, within, after, bit_at, spelt}
 use Rattle.engine.specs.Does.{Does, View, Tests, answer}
@@ -148,3 +148,20 @@ held_low x w m t b column et eb = fun_ext λ s.
     go s false false y e h l = let z : spelt x.n s ≡ y = omega arith in ap (λ (i : ℕ). bit w i) z
     go s true true y e h l = absurd (cc)
     go s false true y e h l = absurd (cc)
+
+-- bits from 2 ^ n on stay zero
+pub kept_small : (n : ℕ) (ws : List ℕ) (d w m : ℕ) → length ws ≡ 16 → d ≤ 15 → m ≡ whole n → ((r : ℕ) → slice_index ws r < 2 ^ 2 ^ n) → (r : ℕ) → slice_index (slice_set ws d (bit_and w m)) r < 2 ^ 2 ^ n
+kept_small n ws d w m k h e small r = go (cases_eq r d)
+  where
+    go : (r ≡ d) ⊎ (r ≢ d) → slice_index (slice_set ws d (bit_and w m)) r < 2 ^ 2 ^ n
+    go (inl q) = let lt : d < length ws = omega arith in rw (q, get_or-set_same, e) (mask_lt w (2 ^ n))
+    go (inr q) = let ne : r ≢ d = q in rw get_or-set_other (small r)
+
+pub copies : (n d a : ℕ) (ws : List ℕ) (e : View (Unit {0})) → d ≤ 15 → a ≤ 15 → e ≡ written (word_view n ws) d (slice_index ws a) → Does {A = Unit {0}} roomy (Op.copy d a) tt (word_view n ws) e (Ok tt)
+copies n d a ws e hd ha wrote = does (Op.copy d a) n d (slice_index ws a) ws e (word_regs n ws a) wrote (reg_at n ws a ha) (rw (le-leb d 15 hd, le-leb a 15 ha) refl) refl
+
+pub literals : (n d v w : ℕ) (ws : List ℕ) (e : View (Unit {0})) → d ≤ 15 → 1 ≤ v → v ≤ n → means n w ≡ (λ s. s v) → e ≡ written (word_view n ws) d w → Does {A = Unit {0}} roomy (Op.literal d v) tt (word_view n ws) e (Ok tt)
+literals n d v w ws e hd lo hi right wrote = does (Op.literal d v) n d w ws e (λ s. s v) wrote right (rw (le-leb d 15 hd, le-leb 1 v lo, le-leb v n hi) refl) refl
+
+pub fixes : (n d a v w : ℕ) (b : Bool) (ws : List ℕ) (e : View (Unit {0})) → d ≤ 15 → a ≤ 15 → 1 ≤ v → v ≤ n → means n w ≡ (λ s. means n (slice_index ws a) (held s v b)) → e ≡ written (word_view n ws) d w → Does {A = Unit {0}} roomy (Op.fix d a v b) tt (word_view n ws) e (Ok tt)
+fixes n d a v w b ws e hd ha lo hi fixed wrote = does (Op.fix d a v b) n d w ws e (λ s. word_regs n ws a (held s v b)) wrote (fixed ∙ ap {B = Bits → Bool} (λ f s. f (held s v b)) (reg_at n ws a ha)) (rw (le-leb d 15 hd, le-leb a 15 ha, le-leb 1 v lo, le-leb v n hi) refl) refl

@@ -1,5 +1,5 @@
-use Rattle.std.proofs.Common.{◌≡◌, Ok, ap, ◌∙◌, rules}
-use Rattle.ipv6.specs.Lines.{ruled, ipv6_rule}
+use Rattle.std.proofs.Common.{◌≡◌, Ok, rules}
+use Rattle.ipv6.specs.Lines.{ipv6_rule}
 use Rattle.ipv6.proofs.Saying.{accepts_rule}
 use Rattle.ipv6.proofs.Refusing.{refuses_rule}
 use Rattle.ipv6.proofs.Meaning.{rule_meant}
@@ -12,5 +12,5 @@ returns-in_err-said c =
 
 pub returns : goal.returns
 returns c =
-    let e : Ok c.rule.result ≡ ipv6_rule c.args.line.now = ap Ok c.rule.ensures ∙ ap ruled c.in_ok-said.ensures in
+    let e : Ok c.rule.result ≡ ipv6_rule c.args.line.now = search rules in
     record { value = e; grammar = accepts_rule c.args.line.now _ e; refusal = refuses_rule c.args.line.now _ e; meaning = rule_meant c.args.line.now _ e }
