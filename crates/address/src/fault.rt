@@ -56,6 +56,7 @@ impl AddressFault {
         }
     }
 
+    // kept: as `number`
     // The fault's place.
     pub fn place(self) -> usize
         ensures { result ≡ address_place self }

@@ -70,7 +70,7 @@ impl Groups {
         Groups::read(Reader::new(text, COLON))
     }
 
-    // kept: the text and where the side starts, since pieces have their places in the whole text
+    // kept: a reader has to know that places fit the machine, which a text and a start in it give, and a `Field` does not
     // The groups of a side of `::`, from `start` on; an empty side has none.
     pub(crate) fn read_side(text: &[u8], start: usize) -> Result<Groups, GroupFault>
         ensures { MatchResult result (λ g. Gathered g (groups (side start (drop start text.now)))) (λ e. groups (side start (drop start text.now)) ≡ Err e) }

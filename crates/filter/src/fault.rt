@@ -59,7 +59,7 @@ impl FilterFault {
         }
     }
 
-    // kept: a refusal without a place is printed with place 0
+    // kept: the format of a refusal has place 0 where there is none
     // The fault's place in its line, counted in bytes from 0; 0 where it has none.
     pub fn place(self) -> usize
         ensures { result ≡ filter_place self }

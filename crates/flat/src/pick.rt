@@ -12,7 +12,7 @@ pub struct Pick {
 impl Pick {
     ghost use Rattle.flat.specs.Picks.{pick_of, picked, counted};
 
-    // kept: it reads a text and tells a fault by the text's place; `try_from` would say neither
+    // kept: a field is a text to be read and no other form of the value; `try_from` would not say so
     // The pick that a field says: `*`, or a digit 0 to 7.
     pub fn read(field: Field<'_>) -> Result<Pick, FlatFault>
         ensures value { result ≡ pick_of field.entry.text.now field.entry.place }

@@ -80,6 +80,7 @@ impl RuleFault {
         }
     }
 
+    // kept: as `number`
     // The fault's place in its line, counted in bytes from 0.
     pub fn place(self) -> usize
         ensures { result ≡ rule_place self }

@@ -25,7 +25,7 @@ pub struct Rule {
 }
 
 impl Action {
-    // kept: it reads a text and tells a fault by the text's place; `try_from` would say neither
+    // kept: a field is a text to be read and no other form of the value; `try_from` would not say so
     // The action that a field says.
     pub fn read(field: Field<'_>) -> Result<Action, LineFault>
         ensures { result ≡ action_of field.entry.text.now field.entry.place }

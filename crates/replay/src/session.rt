@@ -91,6 +91,7 @@ impl Session {
         Session { filter: None }
     }
 
+    // kept: the runtime is a parameter and no field, as what may print is to be seen where it is called
     // One call of the session's filter, and its answer.
     fn ask(&mut self, rt: &HostRuntime, call: &Call) -> io::Result<()> {
         let Some(filter) = &mut self.filter else {

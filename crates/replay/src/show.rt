@@ -3,7 +3,6 @@ use filter::answer::{Answer, Reply};
 use filter::fault::FilterFault;
 use kind::rule::Rule;
 use std::fmt;
-use text::hex::low_digit;
 
 // Bytes in lower-case hexadecimal.
 #[derive(Clone, Copy)]
@@ -12,8 +11,7 @@ struct Hex<'a>(&'a [u8]);
 impl fmt::Display for Hex<'_> {
     fn fmt<W: fmt::Write>(&self, f: &mut fmt::Formatter<W>) -> fmt::Result {
         for byte in self.0 {
-            f.write_char(char::from(low_digit(*byte / 16)))?;
-            f.write_char(char::from(low_digit(*byte)))?;
+            write!(f, "{byte:02x}")?;
         }
         Ok(())
     }

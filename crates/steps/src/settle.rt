@@ -48,7 +48,7 @@ pub fn or_swept<E: Engine, T, F: FnOnce(&mut E) -> Result<T, EngineFault>>(
     requires { F.IsAlwaysCallable work }
     ensures { (at : E) × FnOnceReturnsAtMut F.FnOnce work e.old result at × Swept E.Engine.rooms (E.Engine.view at) (E.Engine.view e.new) result }
 {
-    // kept: `or_else` would run the sweep in a closure, of which the contract would have to speak too
+    // kept: with `is_err` the early return of the sweep would have to drop a T
     match work(e) {
         Ok(x) => Ok(x),
         Err(fault) => {

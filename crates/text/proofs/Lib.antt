@@ -4,3 +4,4 @@ pub mod Numbers
 pub mod Spelled
 pub mod Clears
 mod Empty
+pub mod SameWord

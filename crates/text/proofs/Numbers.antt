@@ -5,7 +5,9 @@ use Rattle.std.specs.Option.{option_map}
 use Rattle.std.proofs.lemmas.Nat.{mul-le}
 use Rattle.std.proofs.lemmas.List.{drop_more, at_drop_all}
 use Rattle.std.proofs.lemmas.Bool.{cases_lt, lt-ltb, le-leb}
-use Rattle.text.specs.Numerals.{capped, number_after, number_of}
+use Rattle.std.proofs.lemmas.Bool.Decides.{nat_tests}
+use Rattle.text.specs.Hexadecimal.{hex_digit}
+use Rattle.text.specs.Numerals.{capped, dec_digit_of, number_after, number_of}
 
 -- a step from a number, and from one that the machine holds in its place
 capped_step : (v w b d : ℕ) → capped v ≡ capped w → capped (v * b + d) ≡ capped (w * b + d)
@@ -75,3 +77,9 @@ module _ (digit : ℕ → Option ℕ) (base : ℕ) (some : 0 < base) (below : (c
           let b : v < base ^ n = number_below n 0 0 v t (omega (arith, pow-zero base)) (omega arith) h in
           let q : capped v ≡ v = omega arith in
           rw (e, q) (refl, b)
+
+pub hex_lt : (c d : ℕ) → Some d ≡ hex_digit c → d < 16
+hex_lt c d e = grind (arith, nat_tests)
+
+pub dec_digit_lt : (c d : ℕ) → Some d ≡ dec_digit_of c → d < 10
+dec_digit_lt c d e = grind (arith, nat_tests)

@@ -25,7 +25,7 @@ impl LineFault {
         }
     }
 
-    // kept: a refusal without a place is printed with place 0
+    // kept: the format of a refusal has place 0 where there is none
     // The fault's place in its line.
     pub fn place(self) -> usize
         ensures { result ≡ line_place self }

@@ -31,8 +31,8 @@ pub fn decode(heap: Global, text: &[u8]) -> Result<Option<Vec<u8>>, AllocError>
 {
     let mut bytes = Vec::new(heap);
     let mut rest = text;
-    // kept: no index is counted; with `chunks(2)` each turn would have to test for a lone digit
     while let [high, low, tail @ ..] = rest {
+        // kept: bad text is `Ok(None)` here, which no `?` says
         let Some(b) = byte(*high, *low) else {
             return Ok(None);
         };
@@ -42,7 +42,7 @@ pub fn decode(heap: Global, text: &[u8]) -> Result<Option<Vec<u8>>, AllocError>
     Ok(rest.is_empty().then_some(bytes))
 }
 
-// kept: `char::from_digit` gives an Option that is never none here, of a char that has to become a byte
+// kept: `char::from_digit` gives an Option that is never none here
 // The lower-case hexadecimal digit of the low four bits.
 pub fn low_digit(d: u8) -> u8
     ensures { result ≡ hex_low d }
