@@ -1,11 +1,10 @@
 -- What a compare's place held before bears on no answer.
-use Rattle.std.proofs.Common.{◌≡◌, ℕ, ◌-◌, ◌≤◌, Bool, cond, List, ◌++◌, length, take, drop, replicate, Some, None, Ok, Err, Option, refl, sym, ap, ◌∙◌, subst, inl, inr, arith}
+use Rattle.std.proofs.Common.{◌≡◌, ℕ, Bool, cond, List, length, replicate, Some, None, Ok, Err, Option, refl, sym, ap, ◌∙◌, inl, inr}
 use Rattle.std.proofs.Math.Seq.{take-append_seam}
 use Rattle.std.proofs.lemmas.List.{drop-replicate}
 use Rattle.engine.specs.Does.{Rooms, View}
 use Rattle.kind.specs.Kinds.{Reading, Lawful, over}
-use Rattle.filter.specs.declared.answer.Reply.{Reply}
-use Rattle.filter.specs.declared.answer.Reply.TheVariants.{Added, Committed, Verdict, Withdrawn, Alike, Differs}
+use Rattle.filter.specs.declared.answer.Reply.TheVariants.{Differs}
 use Rattle.filter.specs.declared.fault.FilterFault.{FilterFault}
 use Rattle.filter.specs.Answers.{Answer, answered, engine_told}
 use Rattle.filter.specs.Books.{Books}

@@ -32,13 +32,13 @@ pub fn run<K: Kind + Drop, E: DecidingEngine + Drop>(
 
 // The answers of two new filters for one kind, each on an engine of its own, to two lists of calls. Where both ask the
 // same, whatever the places of their compares hold, the answers are the same up to the first that tells of no room.
-pub fn run_both<K: Kind + Copy, E: DecidingEngine + Drop, F: DecidingEngine + Drop>(
+pub fn run_pair<'a, K: Kind + Copy, E: DecidingEngine + Drop, F: DecidingEngine + Drop>(
     heap: Global,
     kind: K,
     one: E,
     two: F,
-    calls: &[Call],
-    others: &[Call],
+    calls: &[Call<'a>],
+    others: &[Call<'a>],
 ) -> Result<(Vec<Answer>, Vec<Answer>), AllocError>
     ensures one { IfOk result (λ v. Holds K.Kind.reading (E.Engine.view one).vars no_rules (all_asked calls.now) v.0.items) }
     ensures two { IfOk result (λ v. Holds K.Kind.reading (F.Engine.view two).vars no_rules (all_asked others.now) v.1.items) }
@@ -47,6 +47,21 @@ pub fn run_both<K: Kind + Copy, E: DecidingEngine + Drop, F: DecidingEngine + Dr
     let first = run(heap, kind, one, calls)?;
     let second = run(heap, kind, two, others)?;
     Ok((first, second))
+}
+
+// The same for one list of calls.
+pub fn run_both<K: Kind + Copy, E: DecidingEngine + Drop, F: DecidingEngine + Drop>(
+    heap: Global,
+    kind: K,
+    one: E,
+    two: F,
+    calls: &[Call],
+) -> Result<(Vec<Answer>, Vec<Answer>), AllocError>
+    ensures one { IfOk result (λ v. Holds K.Kind.reading (E.Engine.view one).vars no_rules (all_asked calls.now) v.0.items) }
+    ensures two { IfOk result (λ v. Holds K.Kind.reading (F.Engine.view two).vars no_rules (all_asked calls.now) v.1.items) }
+    ensures together { (E.Engine.view one).vars ≡ K.Kind.reading.bits → (F.Engine.view two).vars ≡ K.Kind.reading.bits → IfOk result (λ v. Together v.0.items v.1.items) }
+{
+    run_pair(heap, kind, one, two, calls, calls)
 }
 
 // Every frame is judged in just one way.

@@ -3,7 +3,7 @@ use filter::answer::{Added, Answer, Reply};
 use flat::flat_kind::FlatKind;
 use kind::rule::Action;
 use run::call::Call;
-use run::run::{run, run_both};
+use run::run::{run, run_pair};
 use std::alloc::{AllocError, Global};
 use std::process::Abort;
 use std::test::Fail;
@@ -330,7 +330,7 @@ fn both_asked(place: Assignment) -> [Call<'static>; 8] {
 
 #[test]
 fn two_engines_answer_alike(rt: HostRuntime) -> Result<(), Fail> {
-    let (one, two) = run_both(
+    let (one, two) = run_pair(
         rt.alloc(),
         FlatKind,
         WordEngine::new(BITS),

@@ -1,4 +1,4 @@
-use Rattle.std.proofs.Common.{ap, rules}
+use Rattle.std.proofs.Common.{rules}
 use Rattle.run.proofs.Placing.{turn_shown}
 use Rattle.run.proofs.perform.compare.Goals as goal
 
