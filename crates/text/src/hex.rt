@@ -60,7 +60,7 @@ mod tests {
 
     #[test]
     fn either_case_is_read(rt: HostRuntime) -> Result<(), Fail> {
-        let bytes = decode(rt.alloc(), b"0aFf")?.ok_or(Fail::new("refused"))?;
+        let bytes = decode(rt.alloc(), b"0aFf")?.ok_or_else(|| Fail::new("refused"))?;
         assert_eq!(rt; bytes.as_slice(), [10, 255].as_slice());
         Ok(())
     }
