@@ -30,6 +30,14 @@ fn new_filter<K: Kind>(kind: K, n: Option<usize>) -> Filter<K, WordEngine> {
     Filter::new(kind, WordEngine::new(n))
 }
 
+// One call of a filter, and its answer.
+fn answered<K: Kind>(filter: &mut Filter<K, WordEngine>, call: &Call) -> Shown {
+    Shown {
+        answer: perform(filter, call),
+        size: filter.frame_size(),
+    }
+}
+
 impl Opened {
     // A new filter of the kind of this name.
     fn new(kind: KindName, n: Option<usize>) -> Opened {
@@ -42,14 +50,8 @@ impl Opened {
     // One call of the filter, and its answer.
     fn perform(&mut self, call: &Call) -> Shown {
         match self {
-            Opened::Flat(filter) => Shown {
-                answer: perform(filter, call),
-                size: FlatKind.size(),
-            },
-            Opened::Ipv6(filter) => Shown {
-                answer: perform(filter, call),
-                size: Ipv6Kind.size(),
-            },
+            Opened::Flat(filter) => answered(filter, call),
+            Opened::Ipv6(filter) => answered(filter, call),
         }
     }
 }

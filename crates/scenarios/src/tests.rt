@@ -3,7 +3,7 @@ use filter::answer::{Added, Answer, Reply};
 use flat::flat_kind::FlatKind;
 use kind::rule::Action;
 use run::call::Call;
-use run::run::{run, run_pair};
+use run::run::{run, run_both, run_pair};
 use std::alloc::{AllocError, Global};
 use std::process::Abort;
 use std::test::Fail;
@@ -314,7 +314,7 @@ fn a_refused_call_changes_nothing(rt: HostRuntime) -> Result<(), Fail> {
     )
 }
 
-// The calls that two engines are asked; what the place of a compare holds bears on no answer.
+// The calls that two engines are asked.
 fn both_asked(place: Assignment) -> [Call<'static>; 8] {
     [
         Call::Add(b"block 3 *"),
@@ -328,16 +328,8 @@ fn both_asked(place: Assignment) -> [Call<'static>; 8] {
     ]
 }
 
-#[test]
-fn two_engines_answer_alike(rt: HostRuntime) -> Result<(), Fail> {
-    let (one, two) = run_pair(
-        rt.alloc(),
-        FlatKind,
-        WordEngine::new(BITS),
-        WordEngine::new(BITS),
-        &both_asked(PLACE),
-        &both_asked([0; BYTES]),
-    )?;
+// The answers of both engines to them.
+fn check_both(rt: &impl Abort, one: &[Answer], two: &[Answer]) {
     let expected = [
         acts(1),
         idle(2),
@@ -348,10 +340,36 @@ fn two_engines_answer_alike(rt: HostRuntime) -> Result<(), Fail> {
         WITHDRAWN,
         differs(0x18),
     ];
-    check_answers(&rt, &one, &expected);
-    check_answers(&rt, &two, &expected);
+    check_answers(rt, one, &expected);
+    check_answers(rt, two, &expected);
     for (a, b) in one.iter().zip(two.iter()) {
         assert_eq!(rt; tell(a), tell(b));
     }
+}
+
+#[test]
+fn two_engines_answer_alike(rt: HostRuntime) -> Result<(), Fail> {
+    let (one, two) = run_both(
+        rt.alloc(),
+        FlatKind,
+        WordEngine::new(BITS),
+        WordEngine::new(BITS),
+        &both_asked(PLACE),
+    )?;
+    check_both(&rt, &one, &two);
+    Ok(())
+}
+
+#[test]
+fn what_a_place_holds_bears_on_no_answer(rt: HostRuntime) -> Result<(), Fail> {
+    let (one, two) = run_pair(
+        rt.alloc(),
+        FlatKind,
+        WordEngine::new(BITS),
+        WordEngine::new(BITS),
+        &both_asked(PLACE),
+        &both_asked([0; BYTES]),
+    )?;
+    check_both(&rt, &one, &two);
     Ok(())
 }
