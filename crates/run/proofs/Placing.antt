@@ -4,13 +4,27 @@ use Rattle.std.proofs.Math.Seq.{take-append_seam}
 use Rattle.std.proofs.lemmas.List.{drop-replicate}
 use Rattle.engine.specs.Does.{Rooms, View}
 use Rattle.kind.specs.Kinds.{Reading, Lawful, over}
-use Rattle.filter.specs.declared.answer.Reply.TheVariants.{Differs}
+use Rattle.filter.specs.declared.answer.Reply.{Reply}
+use Rattle.filter.specs.declared.answer.Reply.TheVariants.{Added, Committed, Verdict, Withdrawn, Alike, Differs}
 use Rattle.filter.specs.declared.fault.FilterFault.{FilterFault}
 use Rattle.filter.specs.Answers.{Answer, answered, engine_told}
 use Rattle.filter.specs.Books.{Books}
 use Rattle.filter.specs.Calls.{comparing, refusal, By}
 use Rattle.filter.specs.Turns.{Turn, Went}
-use Rattle.run.specs.Calls.{fronted, shown}
+use Rattle.run.specs.Calls.{fronted}
+
+-- a reply whose place, if any, is shown by its first bytes alone
+abbrev pub shown_reply : ℕ → Reply → Reply
+shown_reply size (Added x) = Added x
+shown_reply size Committed = Committed
+shown_reply size (Verdict x) = Verdict x
+shown_reply size Withdrawn = Withdrawn
+shown_reply size Alike = Alike
+shown_reply size (Differs p) = Differs (fronted size p)
+
+abbrev pub shown : ℕ → Answer → Answer
+shown size (Ok x) = Ok (shown_reply size x)
+shown size (Err f) = Err f
 
 answered_shown : (size : ℕ) (a : Answer) → answered (shown size a) ≡ answered a
 answered_shown size (Ok x) = refl

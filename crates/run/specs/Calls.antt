@@ -1,8 +1,5 @@
 -- The calls of a run as what is asked of a filter.
-use Rattle.std.specs.Prelude.{ℕ, ◌-◌, List, ◌++◌, Ok, Err, map, take, replicate}
-use Rattle.filter.specs.declared.answer.Reply.{Reply}
-use Rattle.filter.specs.declared.answer.Reply.TheVariants.{Added, Committed, Verdict, Withdrawn, Alike, Differs}
-use Rattle.filter.specs.Answers.{Answer}
+use Rattle.std.specs.Prelude.{ℕ, ◌-◌, List, ◌++◌, map, take, replicate}
 use Rattle.filter.specs.Calls.{Asked, adding, committing, judging, withdrawing, comparing}
 use Rattle.run.specs.declared.call.Call.{Call}
 use Rattle.run.specs.declared.call.Call.TheVariants.{Add, Withdraw, Commit, Judge, Compare}
@@ -22,16 +19,3 @@ all_asked calls = map asked calls
 -- the first bytes of a place, and zeros behind them
 abbrev pub fronted : ℕ → List ℕ → List ℕ
 fronted size place = take size place ++ replicate (18 - size) 0
-
--- a reply whose place, if any, is shown by its first bytes alone
-abbrev pub shown_reply : ℕ → Reply → Reply
-shown_reply size (Added x) = Added x
-shown_reply size Committed = Committed
-shown_reply size (Verdict x) = Verdict x
-shown_reply size Withdrawn = Withdrawn
-shown_reply size Alike = Alike
-shown_reply size (Differs p) = Differs (fronted size p)
-
-abbrev pub shown : ℕ → Answer → Answer
-shown size (Ok x) = Ok (shown_reply size x)
-shown size (Err f) = Err f
