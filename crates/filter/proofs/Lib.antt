@@ -1,3 +1,4 @@
 pub mod Turning
 pub mod Redoing
 pub mod Comparing
+pub mod Removed

@@ -7,7 +7,7 @@ ghost use Rattle.filter.specs.Answers.{added_as, committed_as, judged_as, withdr
 ghost use Rattle.filter.specs.Turns.{Sound, Turns};
 
 use crate::answer::{Added, Comparison};
-use crate::book::{Book, copied};
+use crate::book::{BOOK_MAX, Book};
 use crate::fault::FilterFault;
 use engine::assignment::Assignment;
 use engine::calls::DecidingEngine;
@@ -84,13 +84,14 @@ impl<K: Kind, E: DecidingEngine> Filter<K, E> {
     {
         let n = self.bits()?;
         let rule = self.kind.read(line)?;
-        if self.draft.is_full() {
+        let count = self.draft.len();
+        if count >= BOOK_MAX {
             return Err(FilterFault::Full);
         }
         let idle = admit(&mut self.engine, &rule, n)?;
         self.draft.push(rule);
         Ok(Added {
-            number: self.draft.len(),
+            number: count + 1,
             idle,
         })
     }
@@ -101,7 +102,7 @@ impl<K: Kind, E: DecidingEngine> Filter<K, E> {
     {
         self.bits()?;
         self.engine.copy(LIVE, BLOCKED)?;
-        self.live = copied(&self.draft);
+        self.live = self.draft;
         Ok(())
     }
 
@@ -123,9 +124,9 @@ impl<K: Kind, E: DecidingEngine> Filter<K, E> {
         if number < 1 || number > self.draft.len() {
             return Err(FilterFault::Missing);
         }
-        let mut rest = copied(&self.draft);
+        let mut rest = self.draft;
         rest.remove(number - 1);
-        rebuild(&mut self.engine, rest.as_slice(), n)?;
+        rebuild(&mut self.engine, rest.rules(), n)?;
         self.draft = rest;
         Ok(())
     }

@@ -16,8 +16,8 @@ returns-in_err-idle g c =
 pub invariant_of-self-2 : goal.invariant_of-self-2
 invariant_of-self-2 g c =
     let f = fits g.K.Kind.reading _ _ (rw (← c.self.view_is) at c.in_ok-n.ensures) in
-    rw c.push.ensures.items (admits_ok g.E.Engine.rooms _ _ _ _ _ _ c.self.invariant _ (rw f.0 at c.in_ok-idle.ensures)).1
+    rw c.push.ensures (admits_ok g.E.Engine.rooms _ _ _ _ _ _ c.self.invariant _ (rw f.0 at c.in_ok-idle.ensures)).1
 
 pub returns : goal.returns
 returns g c =
-    rw (← c.self.view_is) (add_kept g.E.Engine.rooms g.K.Kind.reading c.args.line.now c.in_ok-rule.rule _ _ _ _ _ _ (rw (← c.self.view_is) at c.in_ok-n.ensures) (sym c.in_ok-rule.ensures) (search rules) c.in_ok-idle.ensures (search rules) refl c.push.ensures.items c.self.invariant)
+    rw (← c.self.view_is) (add_kept g.E.Engine.rooms g.K.Kind.reading c.args.line.now c.in_ok-rule.rule _ _ _ _ _ _ (rw (← c.self.view_is) at c.in_ok-n.ensures) (sym c.in_ok-rule.ensures) (search rules) c.in_ok-idle.ensures (search rules) refl c.push.ensures c.self.invariant)
