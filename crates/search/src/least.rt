@@ -25,5 +25,6 @@ fn seek<E: DecidingEngine>(e: &mut E) -> Result<Option<Assignment>, EngineFault>
 pub fn least<E: DecidingEngine>(e: &mut E) -> Result<Option<Assignment>, EngineFault>
     ensures { Finds E.Engine.rooms (E.Engine.view e.old).vars (E.Engine.view e.old) (E.Engine.view e.new) result }
 {
-    or_swept(e, seek)
+    let found = seek(e);
+    or_swept(e, found)
 }

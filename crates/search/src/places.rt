@@ -54,7 +54,8 @@ impl Places {
     ghost use Rattle.search.specs.Steps.{side_steps, join_steps, differ_steps, take_steps};
     ghost use Rattle.search.specs.Seeks.{Chooses, Hunts};
 
-    // The complement of the frames on one side.
+    // The complement of the frames on one side. It is inlined, so that the registers are constants at both of its calls.
+    #[inline(always)]
     fn exclude<E: Engine>(self, e: &mut E, side: Side) -> Result<(), EngineFault>
         ensures { Ran E.Engine.rooms (side_steps self side) (E.Engine.view e.old) (E.Engine.view e.new) result }
     {

@@ -10,7 +10,8 @@ use kind::rule::Rule;
 pub fn admit<E: DecidingEngine>(e: &mut E, rule: &Rule, n: u8) -> Result<bool, EngineFault>
     ensures { Admits E.Engine.rooms rule.now n (E.Engine.view e.old) (E.Engine.view e.new) result }
 {
-    let idle = or_swept(e, |e| SCRATCH.work(e, rule, n))?;
+    let done = SCRATCH.work(e, rule, n);
+    let idle = or_swept(e, done)?;
     store(e, rule.action)?;
     Ok(idle)
 }

@@ -24,6 +24,7 @@ fn gather<E: Engine>(e: &mut E, rules: &[Rule], n: u8) -> Result<(), EngineFault
 pub fn rebuild<E: Engine>(e: &mut E, rules: &[Rule], n: u8) -> Result<(), EngineFault>
     ensures { Rebuilds E.Engine.rooms rules.now n (E.Engine.view e.old) (E.Engine.view e.new) result }
 {
-    or_swept(e, |e| gather(e, rules, n))?;
+    let done = gather(e, rules, n);
+    or_swept(e, done)?;
     store(e, Action::Block)
 }

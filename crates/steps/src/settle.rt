@@ -1,5 +1,4 @@
 ghost use Rattle.std.specs.Prelude.{◌≡◌, Ok};
-ghost use Rattle.std.specs.Fn.{FnOnceReturnsAtMut};
 ghost use Rattle.engine.specs.Rows.{Ran};
 ghost use Rattle.steps.specs.Steps.{stored_steps, sweep_steps};
 ghost use Rattle.steps.specs.Works.{Swept};
@@ -40,16 +39,13 @@ pub fn sweep<E: Engine>(e: &mut E) -> Result<(), EngineFault>
     e.clear(SCRATCH.blocked)
 }
 
-// What the work gives; after a refusal the scratch registers become false.
-pub fn or_swept<E: Engine, T, F: FnOnce(&mut E) -> Result<T, EngineFault>>(
-    e: &mut E,
-    work: F,
-) -> Result<T, EngineFault>
-    requires { F.IsAlwaysCallable work }
-    ensures { (at : E) × FnOnceReturnsAtMut F.FnOnce work e.old result at × Swept E.Engine.rooms (E.Engine.view at) (E.Engine.view e.new) result }
+// What was done is passed on; after a refusal the scratch registers become false.
+pub fn or_swept<E: Engine, T>(e: &mut E, done: Result<T, EngineFault>) -> Result<T, EngineFault>
+    ensures same { result ≡ done }
+    ensures swept { Swept E.Engine.rooms (E.Engine.view e.old) (E.Engine.view e.new) result }
 {
     // kept: with `is_err` the early return of the sweep would have to drop a T
-    match work(e) {
+    match done {
         Ok(x) => Ok(x),
         Err(fault) => {
             sweep(e)?;

@@ -5,7 +5,8 @@ use Rattle.steps.proofs.add.admit.Goals as goal
 pub returns-in_err-idle : goal.returns-in_err-idle
 returns-in_err-idle g c =
     let p = err_from_is_err_and c.from_residual.result c.from_residual.ensures.1 in
-    let (at, did, swept) = c.in_err-idle.ensures in rw (p.1, p.2) (g.E.Engine.view at, search rules, swept)
+    rw (p.1, p.2) (g.E.Engine.view c.work-done.new.e, rw (← c.in_err-idle.ensures.same) at c.work-done.ensures, c.in_err-idle.ensures.swept)
 
 pub returns : goal.returns
-returns g c = let (at, did, kept) = c.in_ok-idle.ensures in (g.E.Engine.view c.or_swept.new.e, rw kept (search rules), search rules)
+returns g c =
+    (g.E.Engine.view c.or_swept.new.e, rw c.in_ok-idle.ensures.swept (rw (← c.in_ok-idle.ensures.same) at c.work-done.ensures), search rules)
