@@ -3,19 +3,7 @@ use filter::answer::{Answer, Reply};
 use filter::fault::FilterFault;
 use kind::rule::Rule;
 use std::fmt;
-
-// Bytes in lower-case hexadecimal.
-#[derive(Clone, Copy)]
-struct Hex<'a>(&'a [u8]);
-
-impl fmt::Display for Hex<'_> {
-    fn fmt<W: fmt::Write>(&self, f: &mut fmt::Formatter<W>) -> fmt::Result {
-        for byte in self.0 {
-            write!(f, "{byte:02x}")?;
-        }
-        Ok(())
-    }
-}
+use text::hex::Hex;
 
 // The frame of `size` bytes that a place begins with.
 fn frame(place: &Assignment, size: u8) -> Hex<'_> {

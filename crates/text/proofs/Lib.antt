@@ -5,3 +5,4 @@ pub mod Spelled
 pub mod Clears
 mod Empty
 pub mod SameWord
+pub mod Shown

@@ -1,5 +1,5 @@
 -- Hexadecimal digits and bytes.
-use Rattle.std.specs.Prelude.{ℕ, ◌+◌, ◌-◌, ◌*◌, ◌%◌, cond, ◌&&◌, List, [], ◌∷◌, Some, None, Option, nat_le, nat_lt}
+use Rattle.std.specs.Prelude.{ℕ, ◌+◌, ◌-◌, ◌*◌, ◌/◌, ◌%◌, cond, ◌&&◌, List, [], ◌∷◌, flat_map, Some, None, Option, nat_le, nat_lt}
 
 -- the value of a hexadecimal digit in either case: `0` to `9`, `a` to `f`, `A` to `F`
 abbrev pub hex_digit : ℕ → Option ℕ
@@ -29,3 +29,7 @@ hex_bytes (a ∷ b ∷ rest) = put_first (hex_pair (hex_digit a) (hex_digit b)) 
 -- the lower-case hexadecimal digit of the low four bits
 abbrev pub hex_low : ℕ → ℕ
 hex_low d = cond (nat_lt (d % 16) 10) (48 + d % 16) (97 + (d % 16 - 10))
+
+-- the text of some bytes: two lower-case digits each, the higher first
+abbrev pub hex_text : List ℕ → List ℕ
+hex_text bytes = flat_map (λ b. hex_low (b / 16) ∷ (hex_low b ∷ [])) bytes

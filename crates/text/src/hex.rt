@@ -1,8 +1,9 @@
-ghost use Rattle.std.specs.Prelude.{◌≡◌, IfOk, vec_items};
+ghost use Rattle.std.specs.Prelude.{◌≡◌, IfOk, Some, vec_items};
 ghost use Rattle.std.specs.Option.{option_map};
-ghost use Rattle.text.specs.Hexadecimal.{hex_digit, hex_pair, hex_low, hex_bytes};
+ghost use Rattle.text.specs.Hexadecimal.{hex_digit, hex_pair, hex_low, hex_bytes, hex_text};
 
 use std::alloc::{AllocError, Global};
+use std::fmt;
 
 // kept: the value of a digit is a match on ranges of characters, as the page on kinds has it
 // The value of a hexadecimal digit in either case.
@@ -50,6 +51,23 @@ pub fn low_digit(d: u8) -> u8
     match d % 16 {
         n @ 0..=9 => b'0' + n,
         n => b'a' + (n - 10),
+    }
+}
+
+// Bytes, shown as two lower-case hexadecimal digits each.
+#[derive(Clone, Copy, Debug, PartialEq, Eq)]
+pub struct Hex<'a>(pub &'a [u8]);
+
+impl fmt::Display for Hex<'_> {
+    ghost output = { λ h. Some (hex_text h.0.now) };
+
+    fn fmt<W: fmt::Write>(&self, f: &mut fmt::Formatter<W>) -> fmt::Result {
+        for byte in self.0 {
+            let high = low_digit(*byte / 16) as char;
+            let low = low_digit(*byte) as char;
+            write!(f, "{high}{low}")?;
+        }
+        Ok(())
     }
 }
 
