@@ -1,5 +1,5 @@
 -- Reading groups one after another.
-use Rattle.std.proofs.Common.{◌≡◌, ℕ, zero, suc, ◌+◌, ◌-◌, ◌*◌, ◌^◌, ◌<◌, ◌≤◌, min, List, [], ◌∷◌, ◌++◌, length, drop, replicate, Ok, Err, Result, sym, refl, ap, ◌∙◌, append_assoc, add-zero, mul_assoc, add-mul, mul-one, arith}
+use Rattle.std.proofs.Common.{◌≡◌, ℕ, zero, suc, ◌+◌, ◌-◌, ◌*◌, ◌^◌, ◌<◌, ◌≤◌, min, false, cond, List, [], ◌∷◌, ◌++◌, length, get_or, drop, replicate, Ok, Err, Result, sym, refl, ap, ◌∙◌, subst, append_assoc, add-zero, mul_assoc, add-mul, mul-one, arith}
 use native.Mathlib.Nat.{pow-succ', pow-zero}
 use Rattle.std.specs.Int.Digits.{number_from_digits, number_from_digits_after}
 use Rattle.std.proofs.lemmas.Nat.{pow-add}
@@ -9,7 +9,7 @@ use Rattle.std.proofs.lemmas.Bool.{le-leb}
 use Rattle.text.specs.Split.{Part, split}
 use Rattle.address.specs.declared.fault.GroupFault.{GroupFault}
 use Rattle.address.specs.declared.groups.Groups.{Groups}
-use Rattle.address.specs.Address.{group_at, with_first, first_then, groups, side, gapped, numbered}
+use Rattle.address.specs.Address.{group_at, with_first, first_then, groups, opens_gap, before_gap_of, side, gapped, numbered}
 use Rattle.address.specs.Gathered.{Tally, Gathered}
 
 -- the values before what comes
@@ -42,6 +42,13 @@ sofar_more g h rest all more f v s r o e n = record {
   tally = tally_push g h s.items v s.tally e n;
   whole = s.whole ∙ ap (λ x. with_front s.items (groups x)) r ∙ ap (with_front s.items) (groups_ok f more v o) ∙ front_push s.items v (groups more);
 }
+
+-- no gap opens here
+pub gap_more : (xs : List ℕ) (i : ℕ) → i < length xs → false ≡ opens_gap (drop i xs) → before_gap_of (drop i xs) ≡ suc (before_gap_of (drop (i + 1) xs))
+gap_more xs i h e =
+    let d = drop_more xs i 0 h in
+    let f : false ≡ opens_gap (get_or xs i 0 ∷ drop (i + 1) xs) = e ∙ ap opens_gap d in
+    ap before_gap_of d ∙ subst (λ b. cond b 0 (suc (before_gap_of (drop (i + 1) xs))) ≡ suc (before_gap_of (drop (i + 1) xs))) f refl
 
 -- a side that is not empty
 pub side_some : (text : List ℕ) (i : ℕ) → i < length text → side i (drop i text) ≡ split 58 i (drop i text)

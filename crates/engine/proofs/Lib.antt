@@ -1,3 +1,4 @@
+pub mod Assignments
 pub mod Puts
 pub mod Rows
 pub mod Tables

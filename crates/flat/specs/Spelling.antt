@@ -21,13 +21,16 @@ six : (P : ℕ → Type 0) → P 1 → P 2 → P 3 → P 4 → P 5 → P 6 → (
 six P a b c d e f v l h = grind arith
 
 -- a bit is 0 or 1, and tells its truth value
+small : (b : Bool) → bit b ≤ 1
+small b = grind (arith, nat_tests)
+
 told : (b : Bool) (x : ℕ) → x ≡ bit b → (x == 1) ≡ b
 told b x e = grind (arith, nat_tests)
 
 -- the byte that six bits spell has those bits
 module _ (s : Bits) where
   at : (v : ℕ) → bit (s v) ≤ 1
-  at v = grind (arith, nat_tests)
+  at v = small (s v)
 
   pub byte_below : flat_byte s < 64
   byte_below = omega (arith, at 1, at 2, at 3, at 4, at 5, at 6)

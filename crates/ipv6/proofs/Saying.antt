@@ -79,7 +79,7 @@ Sorted text p (Err f) = RuleRefused text f
 pub prefix_to : (start : ℕ) (t : List ℕ) (x : Prefix) → PrefixText t x → in_line start (prefix t) ≡ Ok x
 prefix_to start t x h = (accepts_prefix start t (in_line start (prefix t)) refl x).1 h
 
-prefix_from : (start : ℕ) (t : List ℕ) (x : Prefix) → in_line start (prefix t) ≡ Ok x → PrefixText t x
+pub prefix_from : (start : ℕ) (t : List ℕ) (x : Prefix) → in_line start (prefix t) ≡ Ok x → PrefixText t x
 prefix_from start t x e = (accepts_prefix start t (in_line start (prefix t)) refl x).0 e
 
 sorted : (text : List ℕ) (p : Parts) → HasFields text p → Sorted text p (parts_said p)

@@ -1,5 +1,6 @@
 -- The calls that fix one variable.
-use Rattle.std.proofs.Common.{◌≡◌, ℕ, zero, suc, ◌+◌, ◌-◌, ◌≤◌, Bool, true, false, cond, List, [], ◌∷◌, Ok, Err, Option, Result, sym, refl, ap, ◌∙◌, subst, arith, eq-eqb, ne_eqb}
+use Rattle.std.proofs.Common.{◌≡◌, ℕ, zero, suc, ◌+◌, ◌-◌, ◌/◌, ◌%◌, ◌^◌, ◌≤◌, Bool, true, false, cond, List, [], ◌∷◌, get_or, replicate, Ok, Err, Option, Result, sym, refl, ap, ◌∙◌, subst, arith, eq-eqb, ne_eqb}
+use native.Mathlib.Nat.{zero-div}
 use Rattle.engine.specs.declared.fault.EngineFault.{EngineFault}
 use Rattle.engine.specs.Ops.{Op, Bits, held, bit_at, put}
 use Rattle.engine.specs.Does.{Does, Rooms, View, Tests, Says}
@@ -63,6 +64,15 @@ trail_more R w s t (suc j) k e m e' x here from to low p y c =
       λ u a b. assigned_off s t (suc j) x y u (omega arith) b (λ q. omega arith) ∙ low u (omega arith) b,
       rw here (m, trail_ext R w (bit_at s) (bit_at t) j e m (λ v a b. sym (assigned_off s t (suc j) x y v a (omega arith) (λ q. omega arith))) (rw before at p), subst (λ (y : Bool). Chooses R w (suc j) m e' (Ok y)) (sym mine) c),
     )
+
+zeros_at : (n i : ℕ) → get_or {A = ℕ} (replicate n 0) i 0 ≡ 0
+zeros_at zero i = refl
+zeros_at (suc n) zero = refl
+zeros_at (suc n) (suc i) = zeros_at n i
+
+-- no bit is set at first
+pub zero_bits : (u : ℕ) → bit_at (replicate 18 0) u ≡ false
+zero_bits u = rw (zeros_at 18 ((u - 1) / 8), zero-div (2 ^ (7 - (u - 1) % 8))) refl
 
 pub clear_made : {R : Rooms} {d : ℕ} {e e' : View R.Shape} {u : Unit {0}} → Does R (Op.clear d) tt e e' (Ok u) → Ran {A = Unit {0}} R (λ rest. Op.clear d ∷ rest) e e' (Ok tt)
 clear_made d = retell (row d) tt

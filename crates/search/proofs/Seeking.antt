@@ -158,6 +158,13 @@ trail_chosen R p (suc k) e m h (x, t, c) j l = go (λ q. trail_chosen R p k e x 
     go i (inl q) = subst (λ (y : ℕ). Says (p (suc y)) ((s : Bits) → e.regs 9 (holding p y (held s (suc y) false)) ≡ false)) (sym q)
         (subst (λ (f : Bits → Bool). Says (p (suc k)) ((s : Bits) → f (held s (suc k) false) ≡ false)) (ap (λ (y : Regs). y 9) (trail_regs R p k e x h t).1) (c.right (p (suc k)) refl))
 
+-- bits past n do not matter
+pub least_ext : (n : ℕ) (xs ys : List Rule) (s t : Bits) → ((v : ℕ) → 1 ≤ v → v ≤ n → s v ≡ t v) → Least n (judged n xs) (judged n ys) s → Least n (judged n xs) (judged n ys) t
+least_ext n xs ys s t h l = record {
+  differ = λ e. l.differ (judged_local n xs s t h ∙ e ∙ sym (judged_local n ys s t h));
+  least = λ u d b. l.least u d record { at = b.at; from = b.from; to = b.to; before = λ w x y. b.before w x y ∙ sym (h w x (omega (arith, y, b.to))); low = b.low; high = h b.at b.from b.to ∙ b.high };
+}
+
 -- two least assignments have the same bits
 pub least_unique : (n : ℕ) (f g : Bits → Bool) (s t : Bits) → Least n f g s → Least n f g t → (k : ℕ) → k ≤ n → (v : ℕ) → 1 ≤ v → v ≤ k → s v ≡ t v
 least_unique n f g s t p q zero h v a b = absurd (omega arith)

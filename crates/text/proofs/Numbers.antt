@@ -33,7 +33,7 @@ module _ (digit : ℕ → Option ℕ) (base : ℕ) where
   ]
 
   -- the byte here is a digit, or none, or there is no more
-  number_more : (v : ℕ) (xs : List ℕ) (i d : ℕ) → i < length xs → Some d ≡ digit (get_or xs i 0) → number_after digit base (v * base + d) (drop (i + 1) xs) ≡ number_after digit base v (drop i xs)
+  pub number_more : (v : ℕ) (xs : List ℕ) (i d : ℕ) → i < length xs → Some d ≡ digit (get_or xs i 0) → number_after digit base (v * base + d) (drop (i + 1) xs) ≡ number_after digit base v (drop i xs)
   number_more v xs i d h e = rw (drop_more xs i 0 h) (subst (λ o. number_after digit base (v * base + d) (drop (i + 1) xs) ≡ elim o [ Some d ↦ number_after digit base (v * base + d) (drop (i + 1) xs) | None ↦ None ]) e refl)
 
   pub capped_more : (v w : ℕ) (xs : List ℕ) (i d : ℕ) → i < length xs → Some d ≡ digit (get_or xs i 0) → w ≡ capped (capped (v * base) + d) → capped_after w (drop (i + 1) xs) ≡ capped_after v (drop i xs)

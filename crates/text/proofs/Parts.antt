@@ -1,10 +1,18 @@
 -- Splitting a text at a byte.
-use Rattle.std.proofs.Common.{◌≡◌, ℕ, suc, ◌+◌, ◌<◌, ◌≤◌, true, false, not, cond, eqb, ltb, List, [], ◌∷◌, length, take, drop, Some, None, refl, ◌∙◌, arith, add-one}
+use Rattle.std.proofs.Common.{◌≡◌, ℕ, suc, ◌+◌, ◌<◌, ◌≤◌, true, false, not, cond, eqb, ltb, List, [], ◌∷◌, length, get_or, take, drop, Some, None, refl, ◌∙◌, arith, add-one, eq-eqb, ne_eqb}
 use lib.Dec.{leb-suc-suc, leb-zero}
 use Rattle.std.proofs.lemmas.Bool.{lt-ltb, le-ltb}
 use Rattle.std.proofs.lemmas.Bool.Decides.{nat_tests}
-use Rattle.std.proofs.lemmas.List.{take_all}
+use Rattle.std.proofs.lemmas.List.{take_all, drop_more}
 use Rattle.text.specs.Split.{Part, before, place_of, grow, split}
+
+-- the byte here is the first c
+pub before_here : (c : ℕ) (xs : List ℕ) (i : ℕ) → i < length xs → get_or xs i 0 ≡ c → before c (drop i xs) ≡ 0
+before_here c xs i h e = rw (drop_more xs i 0 h, eq-eqb (get_or xs i 0) c e) refl
+
+-- the byte here is another
+pub before_more : (c : ℕ) (xs : List ℕ) (i : ℕ) → i < length xs → (get_or xs i 0 ≡ c → ⊥) → before c (drop i xs) ≡ suc (before c (drop (i + 1) xs))
+before_more c xs i h e = rw (drop_more xs i 0 h, ne_eqb (get_or xs i 0) c e) (omega arith)
 
 -- the parts behind the first n bytes and one more
 abbrev pub behind : ℕ → ℕ → ℕ → List ℕ → List Part

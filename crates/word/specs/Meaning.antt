@@ -9,7 +9,6 @@ use Rattle.std.proofs.lemmas.Nat.{shr_below, and_mask}
 use Rattle.engine.specs.Ops.{Bits, Agree, Op, Regs, put, held, within, after, bit_at, spelt}
 use Rattle.engine.specs.Does.{Does, View, Tests, answer}
 use Rattle.engine.proofs.Tables.{each}
-use Rattle.word.specs.declared.variable.Variable.{Variable}
 use Rattle.word.specs.Words.{bit, means, whole, word_regs, word_view, written, blank, roomy, table, spell, word_at}
 use Rattle.word.specs.Bits.{apart, bit_of_and, bit_of_xor, mux, shr_bit, shl_bit, low_bit, zero_bit, ones_bit, same_number, number_none, number_mod, alike, columns}
 use Rattle.word.specs.Spelling.{same_spelt, spelt_below, below_64, spelt_bit, spelt_held, spelt_spell, spelt_byte}
@@ -120,34 +119,34 @@ tests n a ws ha small = record {
     zeroed h = word_table n (slice_index ws a) (small a) ∙ ap (λ (f : Bits → Bool). table n f) (reg_at n ws a ha ∙ fun_ext h) ∙ number_none (2 ^ n)
 
 -- the word whose bit i is bit n - v of i means the variable v
-pub means_variable : (x : Variable) (m k : ℕ) → x.n - x.v ≡ k → each 64 (λ i. alike (bit m i) (bit i k)) ≡ true → means x.n m ≡ (λ s. s x.v)
-means_variable x m k e all = fun_ext λ s. columns m k all (spelt x.n s) (below_64 x.n s x.few) ∙ ap (λ (j : ℕ). bit (spelt x.n s) j) (sym e) ∙ spelt_bit x.n x.v s x.low x.high
+pub means_variable : (n v m k : ℕ) → n ≤ 6 → 1 ≤ v → v ≤ n → n - v ≡ k → each 64 (λ i. alike (bit m i) (bit i k)) ≡ true → means n m ≡ (λ s. s v)
+means_variable n v m k hn lo hi e all = fun_ext λ s. columns m k all (spelt n s) (below_64 n s hn) ∙ ap (λ (j : ℕ). bit (spelt n s) j) (sym e) ∙ spelt_bit n v s lo hi
 
 -- a word with the variable v held at 1: where v is 0 the bit that lies t higher
-pub held_high : (x : Variable) (w m t : ℕ) (b : Bool) → means x.n m ≡ (λ s. s x.v) → t ≡ 2 ^ (x.n - x.v) → b ≡ true → means x.n (bit_xor (w / 2 ^ t) (bit_and (bit_xor w (w / 2 ^ t)) m)) ≡ (λ s. means x.n w (held s x.v b))
-held_high x w m t b column et eb = fun_ext λ s.
-    mux w (w / 2 ^ t) m (spelt x.n s)
-    ∙ ap (λ (f : Bits → Bool). cond (f s) (means x.n w s) (means x.n (w / 2 ^ t) s)) column
-    ∙ go s (s x.v) b (spelt x.n (held s x.v b)) eb (spelt_held x.n x.v b s x.low x.high)
+pub held_high : (n v w m t : ℕ) (b : Bool) → n ≤ 6 → 1 ≤ v → v ≤ n → means n m ≡ (λ s. s v) → t ≡ 2 ^ (n - v) → b ≡ true → means n (bit_xor (w / 2 ^ t) (bit_and (bit_xor w (w / 2 ^ t)) m)) ≡ (λ s. means n w (held s v b))
+held_high n v w m t b hn lo hi column et eb = fun_ext λ s.
+    mux w (w / 2 ^ t) m (spelt n s)
+    ∙ ap (λ (f : Bits → Bool). cond (f s) (means n w s) (means n (w / 2 ^ t) s)) column
+    ∙ go s (s v) b (spelt n (held s v b)) eb (spelt_held n v b s lo hi)
   where
-    go : (s : Bits) (p q : Bool) (y : ℕ) → q ≡ true → y + cond p (2 ^ (x.n - x.v)) 0 ≡ spelt x.n s + cond q (2 ^ (x.n - x.v)) 0 → cond p (means x.n w s) (means x.n (w / 2 ^ t) s) ≡ bit w y
-    go s true true y e h = let z : spelt x.n s ≡ y = omega arith in ap (λ (i : ℕ). bit w i) z
-    go s false true y e h = let z : spelt x.n s + t ≡ y = omega arith in shr_bit w t (spelt x.n s) ∙ ap (λ (i : ℕ). bit w i) z
-    go s true false y e h = absurd (cc)
-    go s false false y e h = absurd (cc)
+    go : (s : Bits) (p q : Bool) (x : ℕ) → q ≡ true → x + cond p (2 ^ (n - v)) 0 ≡ spelt n s + cond q (2 ^ (n - v)) 0 → cond p (means n w s) (means n (w / 2 ^ t) s) ≡ bit w x
+    go s true true x e h = let z : spelt n s ≡ x = omega arith in ap (λ (i : ℕ). bit w i) z
+    go s false true x e h = let z : spelt n s + t ≡ x = omega arith in shr_bit w t (spelt n s) ∙ ap (λ (i : ℕ). bit w i) z
+    go s true false x e h = absurd (cc)
+    go s false false x e h = absurd (cc)
 
 -- a word with the variable v held at 0: where v is 1 the bit that lies t lower
-pub held_low : (x : Variable) (w m t : ℕ) (b : Bool) → means x.n m ≡ (λ s. s x.v) → t ≡ 2 ^ (x.n - x.v) → b ≡ false → means x.n (bit_xor w (bit_and (bit_xor ((w * 2 ^ t) % 2 ^ 64) w) m)) ≡ (λ s. means x.n w (held s x.v b))
-held_low x w m t b column et eb = fun_ext λ s.
-    mux ((w * 2 ^ t) % 2 ^ 64) w m (spelt x.n s)
-    ∙ ap (λ (f : Bits → Bool). cond (f s) (means x.n ((w * 2 ^ t) % 2 ^ 64) s) (means x.n w s)) column
-    ∙ go s (s x.v) b (spelt x.n (held s x.v b)) eb (spelt_held x.n x.v b s x.low x.high) (below_64 x.n s x.few)
+pub held_low : (n v w m t : ℕ) (b : Bool) → n ≤ 6 → 1 ≤ v → v ≤ n → means n m ≡ (λ s. s v) → t ≡ 2 ^ (n - v) → b ≡ false → means n (bit_xor w (bit_and (bit_xor ((w * 2 ^ t) % 2 ^ 64) w) m)) ≡ (λ s. means n w (held s v b))
+held_low n v w m t b hn lo hi column et eb = fun_ext λ s.
+    mux ((w * 2 ^ t) % 2 ^ 64) w m (spelt n s)
+    ∙ ap (λ (f : Bits → Bool). cond (f s) (means n ((w * 2 ^ t) % 2 ^ 64) s) (means n w s)) column
+    ∙ go s (s v) b (spelt n (held s v b)) eb (spelt_held n v b s lo hi) (below_64 n s hn)
   where
-    go : (s : Bits) (p q : Bool) (y : ℕ) → q ≡ false → y + cond p (2 ^ (x.n - x.v)) 0 ≡ spelt x.n s + cond q (2 ^ (x.n - x.v)) 0 → spelt x.n s < 64 → cond p (means x.n ((w * 2 ^ t) % 2 ^ 64) s) (means x.n w s) ≡ bit w y
-    go s true false y e h l = let z : spelt x.n s ≡ y + t = omega arith in ap (λ (i : ℕ). bit ((w * 2 ^ t) % 2 ^ 64) i) z ∙ shl_bit w t y 64 (omega arith)
-    go s false false y e h l = let z : spelt x.n s ≡ y = omega arith in ap (λ (i : ℕ). bit w i) z
-    go s true true y e h l = absurd (cc)
-    go s false true y e h l = absurd (cc)
+    go : (s : Bits) (p q : Bool) (x : ℕ) → q ≡ false → x + cond p (2 ^ (n - v)) 0 ≡ spelt n s + cond q (2 ^ (n - v)) 0 → spelt n s < 64 → cond p (means n ((w * 2 ^ t) % 2 ^ 64) s) (means n w s) ≡ bit w x
+    go s true false x e h l = let z : spelt n s ≡ x + t = omega arith in ap (λ (i : ℕ). bit ((w * 2 ^ t) % 2 ^ 64) i) z ∙ shl_bit w t x 64 (omega arith)
+    go s false false x e h l = let z : spelt n s ≡ x = omega arith in ap (λ (i : ℕ). bit w i) z
+    go s true true x e h l = absurd (cc)
+    go s false true x e h l = absurd (cc)
 
 -- bits from 2 ^ n on stay zero
 pub kept_small : (n : ℕ) (ws : List ℕ) (d w m : ℕ) → length ws ≡ 16 → d ≤ 15 → m ≡ whole n → ((r : ℕ) → slice_index ws r < 2 ^ 2 ^ n) → (r : ℕ) → slice_index (slice_set ws d (bit_and w m)) r < 2 ^ 2 ^ n
