@@ -24,7 +24,7 @@ impl Book {
         ensures { held_in result ≡ [] }
     {
         Book {
-            rules: [Rule::default(); BOOK_MAX],
+            rules: Default::default(),
             count: 0,
         }
     }
